@@ -1,0 +1,4 @@
+pub mod Membership
+pub mod Order
+pub mod Counts
+pub mod Loops

@@ -1,0 +1,6 @@
+pub mod Limits
+pub mod Clauses
+pub mod Sheets
+pub mod Health
+pub mod Support
+pub mod Changes

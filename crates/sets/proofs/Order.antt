@@ -126,3 +126,12 @@ minus-in a b i h n = has-minus a b i ∙ and-from (has a i) (not (has b i)) h (n
 
 pub sub-minus : (a b : ℕ) → Subset (minus a b) a
 sub-minus a b i h = in-minus a b i h .0
+
+pub or-assoc : (a b c : ℕ) → bitOr (bitOr a b) c ≡ bitOr a (bitOr b c)
+or-assoc a b c =
+    same-members (bitOr (bitOr a b) c) (bitOr a (bitOr b c))
+    (λ i. has-or (bitOr a b) c i ∙ ap (λ t. t || has c i) (has-or a b i) ∙ ways (has a i) (has b i) (has c i) ∙ ap (λ t. has a i || t) (sym (has-or b c i)) ∙ sym (has-or a (bitOr b c) i))
+  where
+    ways : (x y z : Bool) → ((x || y) || z) ≡ (x || (y || z))
+    ways true y z = refl
+    ways false y z = refl

@@ -11,13 +11,14 @@ use lib.Bits.{bitOr}
 use lib.Dec.{eqb, ltb}
 use lib.ListN.{length, getD}
 use lib.Pow.{pow-lt, pow-mono}
+use Rattle.std.specs.Changed.{refilled}
 use Rattle.std.specs.Iters.{counting}
 use Rattle.std.specs.Of.Vec.{vec-items, vec-len, vec-cap}
 use Rattle.std.specs.declared.vec.Vec.{Vec}
 use Rattle.std.specs.declared.alloc.Global.{Global}
 use Rattle.std.proofs.shelf.Bits.{or-lt}
 use Rattle.std.proofs.shelf.Counted.{getD-map-counting, length-map-counting}
-use Rattle.std.proofs.shelf.Lists.{length-push, getD-push, getD-append-left, getD-past}
+use Rattle.std.proofs.shelf.Lists.{length-push, getD-push, getD-append-left, getD-past, refilled-is}
 use Rattle.std.proofs.shelf.Tests.{cases-bool, cases-eq, cases-lt, both-ways, eq-eqb, ne-eqb, eqb-true, lt-ltb, ltb-true, and-from, and-parts, or-left, or-right, or-cases, cond-true, cond-false}
 use borrow.Author.Count.{below-more}
 use Rattle.sets.specs.Limit.{limit}
@@ -62,6 +63,12 @@ module _ (m : SheetModel) (w : Formed m) where
 
   pub present-limit : (i : ℕ) → Has (m .present) i → i < limit
   present-limit i h = omega (arith, present-below i h, w .small)
+
+-- the owners of clauses can be members of a set
+pub owners-limit : (m : SheetModel) → Formed m → (cs : List Clause) → cs ≡ m .clauses → (k : ℕ) → k < length cs → clauseAt cs k .owner < limit
+owners-limit m w cs e k lt =
+    let at : clauseAt cs k .owner ≡ clauseAt (m .clauses) k .owner = ap (λ (ds : List Clause). clauseAt ds k .owner) e in
+    omega (arith, at, present-limit m w (clauseAt (m .clauses) k .owner) (w .owned k (subst (λ (ds : List Clause). k < length ds) e lt)))
 
 pub within-more : (a b c : ℕ) → Subset b c → within a b ≡ true → within a c ≡ true
 within-more a b c s h = decides-sub a c .1 (λ i p. s i (decides-sub a b .0 h i p))
@@ -247,3 +254,8 @@ opposed-formed m p qs w h q other = record {
     never i (before g) = both-ways (has (row table i) i) (w .irreflexive i) g
     never i (forward e g) = both-ways (has qs p) other (ap (has qs) (sym e) ∙ g)
     never i (backward e g) = both-ways (has qs p) other (ap (has qs) (sym e) ∙ g)
+
+-- what the code makes of the table
+pub refilled-opposed : (t : Vec ComponentSet Global) (ws : List ComponentSet) (p qs : ℕ) → ws ≡ opposed (vec-items t) p qs → vec-items (refilled t ws) ≡ opposed (vec-items t) p qs
+refilled-opposed t ws p qs e =
+    refilled-is t ws (ap length e ∙ length-map-counting (opposedRow (vec-items t) p qs) 0 (length (vec-items t)) ∙ sym (t .ok .0)) ∙ e

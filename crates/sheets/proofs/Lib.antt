@@ -1,1 +1,4 @@
 pub mod Forms
+pub mod Feeding
+pub mod Supports
+mod Examples

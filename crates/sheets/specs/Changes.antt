@@ -48,9 +48,12 @@ clauseAdded m c =
     (cond (ltb (length (m .clauses)) maxClauses) (Ok (withClauses m (m .clauses ++ c ∷ []))) (Err TableFull))
     (Err NoComponent)
 
--- the conflict set of i once p conflicts with each member of qs
+-- a conflict set s of i once p conflicts with each member of qs
+abbrev pub opposedSet : ℕ → ℕ → ℕ → ℕ → ℕ
+opposedSet s p qs i = cond (eqb i p) (bitOr s qs) (cond (has qs i) (withMember s p) s)
+
 abbrev pub opposedRow : List ComponentSet → ℕ → ℕ → ℕ → ComponentSet
-opposedRow table p qs i = record { bits = cond (eqb i p) (bitOr (row table i) qs) (cond (has qs i) (withMember (row table i) p) (row table i)) }
+opposedRow table p qs i = record { bits = opposedSet (row table i) p qs i }
 
 abbrev pub opposed : List ComponentSet → ℕ → ℕ → List ComponentSet
 opposed table p qs = map (opposedRow table p qs) (counting 0 (length table))

@@ -1,11 +1,13 @@
 -- Which components can stand together.
 use mathlib.Core.Path.{_≡_}
-use mathlib.Core.Bool.{_&&_}
+use mathlib.Core.Bool.{Bool, _&&_}
 use mathlib.Core.List.{List}
 use Prim.Native.Nat.{ℕ, _^_}
 use lib.Dec.{eqb}
 use Rattle.std.specs.shelf.Lists.{All}
 use Rattle.sets.specs.Sets.{has, Has, Subset, Meet, collect}
+use Rattle.sets.specs.declared.ComponentSet.{ComponentSet}
+use Rattle.sheets.specs.Clauses.{row}
 use Rattle.sheets.specs.declared.clause.Clause.{Clause}
 use Rattle.sheets.specs.Sheets.{SheetModel, conflictsOf}
 
@@ -33,6 +35,10 @@ pub record Coinstallable (m : SheetModel) (x : ℕ) : Type 0 where
 abbrev pub Broken : SheetModel → ℕ → Type 0
 Broken m i = Has (m .present) i × (Coinstallable m (2 ^ i) → ⊥)
 
--- the clear components: those that are present and conflict with none
+-- whether i is present and conflicts with none
+abbrev pub isClear : ℕ → List ComponentSet → ℕ → Bool
+isClear present table i = has present i && eqb (row table i) 0
+
+-- the clear components
 unfoldable pub clear : SheetModel → ℕ
-clear m = collect (λ i. has (m .present) i && eqb (conflictsOf m i) 0) (m .size)
+clear m = collect (isClear (m .present) (m .conflicts)) (m .size)

@@ -4,3 +4,4 @@ pub mod Sheets
 pub mod Health
 pub mod Support
 pub mod Changes
+pub mod Examples

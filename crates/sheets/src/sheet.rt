@@ -9,6 +9,7 @@ ghost use Rattle.sheets.specs.Clauses.{Owned, Known, Among, Mutual, Irreflexiv
 
 mod calls;
 mod changes;
+mod health;
 
 /// Components, what each needs and what it conflicts with.
 ///

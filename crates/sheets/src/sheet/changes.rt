@@ -18,7 +18,7 @@ ghost use Rattle.sets.specs.Sets.{has};
 ghost use Rattle.sheets.specs.Limits.{maxClauses};
 ghost use Rattle.sheets.specs.Clauses.{row, noSet};
 ghost use Rattle.sheets.specs.Sheets.{SheetModel, model};
-ghost use Rattle.sheets.specs.Changes.{Goes, blank, componentAdded, clauseAdded, conflictsAdded, opposedRow, opposed};
+ghost use Rattle.sheets.specs.Changes.{Goes, blank, componentAdded, clauseAdded, conflictsAdded, opposedSet, opposedRow, opposed};
 
 impl Sheet {
     /// How many clauses a sheet has at most.
@@ -80,5 +80,42 @@ impl Sheet {
         }
         self.clauses.push_reserved(clause);
         Ok(())
+    }
+
+    /// A component conflicts with each of the others from now on, and each of them with it.
+    /// No-component where one is not present, then self-clash where it is among the others.
+    pub fn add_conflicts(&mut self, component: usize, others: ComponentSet) -> Result<(), Refusal>
+        ensures { λ r. ⌜ Goes (conflictsAdded (model (now (self .entry))) component (others .bits)) tt r (model (now (self .entry))) (model (now (self .exit))) ⌝ }
+    {
+        if !self.present.contains(component) || !others.is_subset(self.present) {
+            return Err(Refusal::NoComponent);
+        }
+        if others.contains(component) {
+            return Err(Refusal::SelfClash);
+        }
+        oppose(self.conflicts.as_mut_slice(), component, others);
+        Ok(())
+    }
+}
+
+/// The conflict set of component `i`, once `component` conflicts with the others.
+fn opposed_set(conflicts: ComponentSet, component: usize, others: ComponentSet, i: usize) -> ComponentSet
+    ensures { λ r. ⌜ r .bits ≡ opposedSet (conflicts .bits) component (others .bits) i ⌝ }
+{
+    if i == component {
+        conflicts | others
+    } else if others.contains(i) {
+        conflicts.with(component)
+    } else {
+        conflicts
+    }
+}
+
+/// Turns each conflict set of a table into the one with the new conflicts.
+fn oppose(table: &mut [ComponentSet], component: usize, others: ComponentSet)
+    ensures { λ _. ⌜ now (table .exit) ≡ opposed (now (table .entry)) component (others .bits) ⌝ }
+{
+    for i in 0..table.len() {
+        table[i] = opposed_set(table[i], component, others, i);
     }
 }

@@ -29,7 +29,7 @@ impl Sheet {
         if !set.is_subset(self.present) {
             return false;
         }
-        if set.intersects(unmet_owners(self.clauses.as_slice(), set)) {
+        if set.intersects(self.unmet(set)) {
             return false;
         }
         is_quiet(self.conflicts.as_slice(), set)
@@ -51,7 +51,7 @@ impl Sheet {
     {
         let mut supported = self.clear_components();
         loop {
-            let narrower = narrow(self.clauses.as_slice(), set, supported);
+            let narrower = self.narrowed(set, supported);
             if narrower == supported {
                 return supported;
             }
@@ -67,6 +67,20 @@ impl Sheet {
     {
         self.support(ComponentSet::empty())
     }
+
+    /// The owners of the clauses that have no member in a set.
+    fn unmet(&self, set: ComponentSet) -> ComponentSet
+        ensures { λ r. ⌜ r .bits ≡ unmet (model (now (self .entry)) .clauses) (set .bits) ⌝ }
+    {
+        unmet_owners(self.clauses.as_slice(), set)
+    }
+
+    /// The candidates each of whose needs is met by the set or by the candidates.
+    fn narrowed(&self, set: ComponentSet, candidates: ComponentSet) -> ComponentSet
+        ensures { λ r. ⌜ r .bits ≡ narrowed (model (now (self .entry)) .clauses) (set .bits) (candidates .bits) ⌝ }
+    {
+        candidates - self.unmet(set | candidates)
+    }
 }
 
 /// The owners of the clauses that have no member in a set.
@@ -81,14 +95,6 @@ fn unmet_owners(clauses: &[Clause], set: ComponentSet) -> ComponentSet
         }
     }
     owners
-}
-
-/// The candidates each of whose needs is met by the set or by the candidates.
-fn narrow(clauses: &[Clause], set: ComponentSet, candidates: ComponentSet) -> ComponentSet
-    requires { ⌜ ((k : ℕ) → k < length (now clauses) → clauseAt (now clauses) k .owner < limit) ⌝ }
-    ensures { λ r. ⌜ r .bits ≡ narrowed (now (clauses .entry)) (set .bits) (candidates .bits) ⌝ }
-{
-    candidates - unmet_owners(clauses, set | candidates)
 }
 
 /// Whether no two components of a set conflict.

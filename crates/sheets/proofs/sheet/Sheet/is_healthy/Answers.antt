@@ -11,13 +11,9 @@ use Rattle.sets.specs.declared.ComponentSet.{ComponentSet}
 use Rattle.sheets.specs.Clauses.{row}
 use Rattle.sheets.specs.Sheets.{model}
 use Rattle.sheets.specs.Support.{unmet}
-use Rattle.sheets.specs.declared.clause.Clause.{Clause}
-use Rattle.sheets.proofs.Forms.{formed, owners-limit, present-below}
+use Rattle.sheets.proofs.Forms.{formed, present-below}
 use Rattle.sheets.proofs.Feeding.{fed-apart, apart-fed}
 use Rattle.sheets.proofs.sheet.Sheet.is_healthy.Needs as need
-
-pub unmet-owners-requires : need.unmet-owners-requires
-unmet-owners-requires c κs = owners-limit (model (c .args .self .now)) (formed (c .args .self .now)) (c .as-slice .result .now) (c .as-slice .ensures .value)
 
 pub returns-then-not-is-subset : need.returns-then-not-is-subset
 returns-then-not-is-subset c =
@@ -29,19 +25,17 @@ returns-then-intersects c =
     let m = model (c .args .self .now) in
     let x = c .args .set .bits in
     let b = c .if-intersects .ensures tt .cases in
-    let is : c .unmet-owners .result .bits ≡ unmet (m .clauses) x = c .unmet-owners .ensures ∙ ap (λ (cs : List Clause). unmet cs x) (c .as-slice .ensures .value) in
-    (λ e. absurd (false≢true e), λ h. absurd (fed-apart (m .clauses) x x (h .fed) (b .at) (b .one) (ap (λ s. has s (b .at)) (sym is) ∙ b .other)))
+    (λ e. absurd (false≢true e), λ h. absurd (fed-apart (m .clauses) x x (h .fed) (b .at) (b .one) (ap (λ s. has s (b .at)) (sym (c .unmet .ensures)) ∙ b .other)))
 
 pub returns : need.returns
 returns c =
     let s = c .args .self .now in
     let m = model s in
     let x = c .args .set .bits in
-    let is : c .unmet-owners .result .bits ≡ unmet (m .clauses) x = c .unmet-owners .ensures ∙ ap (λ (cs : List Clause). unmet cs x) (c .as-slice .ensures .value) in
     let inside : Subset x (m .present) = c .if-not-is-subset .ensures tt .cases in
-    let met : Apart x (unmet (m .clauses) x) = subst (Apart x) is (c .if-intersects .ensures tt .cases) in
+    let met : Apart x (unmet (m .clauses) x) = subst (Apart x) (c .unmet .ensures) (c .if-intersects .ensures tt .cases) in
     let quiet : Decides (c .is-quiet .result) ((i : ℕ) → i < length (m .conflicts) → Has x i → Apart x (row (m .conflicts) i)) =
-    subst (λ (t : List ComponentSet). Decides (c .is-quiet .result) ((i : ℕ) → i < length t → Has x i → Apart x (row t i))) (c .as-slice-2 .ensures .value) (c .is-quiet .ensures) in
+    subst (λ (t : List ComponentSet). Decides (c .is-quiet .result) ((i : ℕ) → i < length t → Has x i → Apart x (row t i))) (c .as-slice .ensures .value) (c .is-quiet .ensures) in
     (
       λ e. record {
         installation = inside;

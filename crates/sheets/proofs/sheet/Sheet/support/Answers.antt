@@ -1,17 +1,11 @@
 use mathlib.Core.Path.{_≡_, refl, sym, ap, subst, _∙_}
-use mathlib.Core.List.{List}
 use Prim.Native.Nat.{_<_}
 use Rattle.std.proofs.shelf.Tests.{both-ways}
 use Rattle.sets.specs.Sets.{has, Subset}
 use Rattle.sheets.specs.Sheets.{model}
 use Rattle.sheets.specs.Support.{ClosedUnderNeeds, narrowed, support}
-use Rattle.sheets.specs.declared.clause.Clause.{Clause}
-use Rattle.sheets.proofs.Forms.{formed, owners-limit}
 use Rattle.sheets.proofs.Supports.{narrowed-less, narrowed-holds, narrowed-lower, support-closed, support-greatest, support-is}
 use Rattle.sheets.proofs.sheet.Sheet.support.Needs as need
-
-pub narrow-narrower-requires : need.narrow-narrower-requires
-narrow-narrower-requires c κs = owners-limit (model (c .args .self .now)) (formed (c .args .self .now)) (c .as-slice .result .now) (c .as-slice .ensures .value)
 
 pub loop-set-holds : need.loop-set-holds
 loop-set-holds c =
@@ -23,7 +17,7 @@ loop-set-again c =
     let m = model (c .args .self .now) in
     let x = c .args .set .bits in
     let q = c .loop-set .supported .bits in
-    let is : c .narrow-narrower .result .bits ≡ narrowed (m .clauses) x q = c .narrow-narrower .ensures ∙ ap (λ (cs : List Clause). narrowed cs x q) (c .as-slice .ensures .value) in
+    let is = c .narrowed-narrower .ensures in
     (
       λ i h. c .loop-set .inv .0 i (narrowed-less (m .clauses) x q i (ap (λ s. has s i) (sym is) ∙ h)),
       λ i h. ap (λ s. has s i) is ∙ narrowed-holds (m .clauses) x (support m x) q (support-closed m x .fed) (c .loop-set .inv .1) i h
@@ -34,7 +28,7 @@ loop-set-less c =
     let m = model (c .args .self .now) in
     let x = c .args .set .bits in
     let q = c .loop-set .supported .bits in
-    let is : c .narrow-narrower .result .bits ≡ narrowed (m .clauses) x q = c .narrow-narrower .ensures ∙ ap (λ (cs : List Clause). narrowed cs x q) (c .as-slice .ensures .value) in
+    let is = c .narrowed-narrower .ensures in
     subst (λ n. n < q) (sym is) (narrowed-lower (m .clauses) x q (λ e. both-ways (c .eq .result) (c .if-eq .left) (c .eq .ensures .1 (is ∙ e))))
 
 pub returns-then-eq : need.returns-then-eq
@@ -42,7 +36,7 @@ returns-then-eq c =
     let m = model (c .args .self .now) in
     let x = c .args .set .bits in
     let q = c .loop-set .supported .bits in
-    let is : c .narrow-narrower .result .bits ≡ narrowed (m .clauses) x q = c .narrow-narrower .ensures ∙ ap (λ (cs : List Clause). narrowed cs x q) (c .as-slice .ensures .value) in
+    let is = c .narrowed-narrower .ensures in
     let done : q ≡ support m x = support-is m x q (c .loop-set .inv .0) (c .loop-set .inv .1) (sym is ∙ c .eq .ensures .0 (c .if-eq .taken)) in
     record {
       value = done;

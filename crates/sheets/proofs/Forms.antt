@@ -97,7 +97,7 @@ blank-formed = record {
 
 -- ---- one more component
 
-row-grown : (table : List ComponentSet) (i : ℕ) → row (table ++ noSet ∷ []) i ≡ row table i
+pub row-grown : (table : List ComponentSet) (i : ℕ) → row (table ++ noSet ∷ []) i ≡ row table i
 row-grown [] zero = refl
 row-grown [] (suc i) = blank-rows i
 row-grown (r ∷ rs) zero = refl

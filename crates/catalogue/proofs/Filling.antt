@@ -31,17 +31,9 @@ use Rattle.sheets.specs.declared.clause.Clause.{Clause}
 use Rattle.sheets.specs.declared.sheet.Sheet.{Sheet}
 use Rattle.sheets.proofs.Forms.{within-more, row-grown}
 use Rattle.catalogue.specs.Drafts.{Draft, isMade, needMade}
-use Rattle.catalogue.specs.Notes.{noRecord, noted, Known, Foreign, Unopposed}
+use Rattle.catalogue.specs.Notes.{noRecord, noted, Known, Foreign, Unopposed, Filled}
 use Rattle.catalogue.specs.declared.opened.OpenCatalogue.{OpenCatalogue}
 use Rattle.catalogue.specs.declared.records.ComponentRecord.{ComponentRecord}
-
--- a sheet without conflicts, and a record for each of its components
-pub record Filled (m : SheetModel) (rs : List ComponentRecord) : Type 0 where
-  pub counted : length rs ≡ m .size
-  pub whole : m .present ≡ below (m .size)
-  pub unopposed : Unopposed (m .conflicts)
-  pub known : Known (m .present) rs
-  pub foreign : Foreign rs
 
 pub filled : (c : OpenCatalogue) → Filled (model (c .sheet)) (vec-items (c .records))
 filled c = record {

@@ -3,10 +3,11 @@ use mathlib.Core.Path.{_≡_}
 use mathlib.Core.Bool.{true, false}
 use mathlib.Core.List.{List}
 use Prim.Native.Nat.{ℕ}
-use lib.ListN.{getD}
-use Rattle.sets.specs.Sets.{has, within}
+use lib.ListN.{getD, length}
+use Rattle.sets.specs.Sets.{has, within, below}
 use Rattle.sets.specs.declared.ComponentSet.{ComponentSet}
 use Rattle.sheets.specs.Clauses.{noSet, row}
+use Rattle.sheets.specs.Sheets.{SheetModel}
 use Rattle.catalogue.specs.declared.records.ComponentRecord.{ComponentRecord}
 
 abbrev pub noRecord : ComponentRecord
@@ -26,3 +27,11 @@ Foreign rs = (p : ℕ) → has (noted rs p) p ≡ false
 -- nothing conflicts yet
 abbrev pub Unopposed : List ComponentSet → Type 0
 Unopposed table = (i : ℕ) → row table i ≡ 0
+
+-- a sheet whose components are all present and have no conflicts, with a record for each of them
+pub record Filled (m : SheetModel) (rs : List ComponentRecord) : Type 0 where
+  pub counted : length rs ≡ m .size
+  pub whole : m .present ≡ below (m .size)
+  pub unopposed : Unopposed (m .conflicts)
+  pub known : Known (m .present) rs
+  pub foreign : Foreign rs

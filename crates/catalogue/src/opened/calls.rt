@@ -17,7 +17,7 @@ ghost use Rattle.sets.specs.Limit.{limit};
 ghost use Rattle.sets.specs.Sets.{has};
 ghost use Rattle.sheets.specs.Changes.{Goes};
 ghost use Rattle.sheets.specs.Sheets.{SheetModel, model, conflictsOf};
-ghost use Rattle.catalogue.specs.Notes.{noted};
+ghost use Rattle.catalogue.specs.Notes.{noted, Filled};
 ghost use Rattle.catalogue.specs.Drafts.{Draft, draft, emptyDraft, componentMade, needMade, clashMade, clash, closed};
 
 impl OpenCatalogue {
@@ -60,5 +60,27 @@ impl OpenCatalogue {
         let record = &mut self.records[component];
         record.note(other);
         Ok(())
+    }
+
+    /// Closes the catalogue: two components conflict where one of them has noted the other.
+    /// This is never declined and asks for no memory.
+    pub fn close(self) -> ClosedCatalogue
+        ensures sheet { λ r. ⌜ model (r .sheet) ≡ closed (draft self) ⌝ }
+        ensures both { λ r. ⌜ ((p q : ℕ) → has (conflictsOf (model (r .sheet)) p) q ≡ clash (draft self) p q) ⌝ }
+    {
+        let OpenCatalogue { mut sheet, records } = self;
+        complete(&mut sheet, records.as_slice());
+        ClosedCatalogue::new(sheet)
+    }
+}
+
+/// Gives the sheet the clashes of the records, both ways. No addition is declined: the records name other components that are present.
+fn complete(sheet: &mut Sheet, records: &[ComponentRecord])
+    requires { ⌜ Filled (model (now sheet)) (now records) ⌝ }
+    ensures sheet { λ _. ⌜ model (now (sheet .exit)) ≡ closed (record { clauses = model (now (sheet .entry)) .clauses; records = now (records .entry) }) ⌝ }
+    ensures both { λ _. ⌜ ((p q : ℕ) → has (conflictsOf (model (now (sheet .exit))) p) q ≡ clash (record { clauses = model (now (sheet .entry)) .clauses; records = now (records .entry) }) p q) ⌝ }
+{
+    for (component, record) in records.iter().enumerate() {
+        let _ = sheet.add_conflicts(component, record.clashes());
     }
 }

@@ -6,8 +6,9 @@ use Rattle.std.specs.Of.Vec.{vec-items, vec-cap}
 use Rattle.sets.specs.Limit.{limit}
 use Rattle.sheets.specs.Sheets.{SheetModel, model}
 use Rattle.sheets.specs.Changes.{grown}
+use Rattle.catalogue.specs.Notes.{Filled}
 use Rattle.catalogue.specs.declared.records.ComponentRecord.{ComponentRecord}
-use Rattle.catalogue.proofs.Filling.{Filled, filled, filled-grown, sealed}
+use Rattle.catalogue.proofs.Filling.{filled, filled-grown, sealed}
 use Rattle.catalogue.proofs.opened.OpenCatalogue.add_component.Needs as need
 
 pub ghost-self-2 : need.ghost-self-2

@@ -6,8 +6,9 @@ use Rattle.std.specs.Of.Vec.{vec-items, vec-cap}
 use Rattle.sets.specs.Limit.{limit}
 use Rattle.sheets.specs.Sheets.{SheetModel, model}
 use Rattle.sheets.specs.Changes.{blank}
+use Rattle.catalogue.specs.Notes.{Filled}
 use Rattle.catalogue.specs.declared.records.ComponentRecord.{ComponentRecord}
-use Rattle.catalogue.proofs.Filling.{Filled, filled-blank, sealed}
+use Rattle.catalogue.proofs.Filling.{filled-blank, sealed}
 use Rattle.catalogue.proofs.opened.OpenCatalogue.new.Needs as need
 
 pub ghost-result : need.ghost-result

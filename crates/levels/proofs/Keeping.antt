@@ -68,7 +68,7 @@ pub throughout : (s : SheetModel) (p : PileModel) → base p ≡ s → Sturdy p 
 throughout s _ e (lone t w) = record { grounded = e; keeps = subst (λ g. Keeps g t (λ i. i) (λ x. x)) e (keeps-itself t w) }
 throughout s _ e (more p r o h d m) = (
   throughout s p e h,
-  record { grounded = e; keeps = subst (λ g. Keeps g (o .sheet) (image (raised p r o)) (lift (raised p r o))) e (faithful (raised p r o) (more p r o h d m)) }
+  record { grounded = e; keeps = subst (λ g. Keeps g (o .sheet) (image (raised p r o)) (lift (raised p r o))) e (faithful (raised p r o) (more p r o h d m)) },
 )
 
 -- ---- runs

@@ -68,7 +68,10 @@ pub struct KernelSize {
 
 impl<R: Reduction> Pile<R> {
     /// The pile with one reduction more on top; where memory runs out, the pile is given back.
-    pub fn raise(below: Pile<R::Below>, heap: Global) -> Result<Pile<R>, (Pile<R::Below>, AllocError)>
+    pub fn raise(
+        below: Pile<R::Below>,
+        heap: Global,
+    ) -> Result<Pile<R>, (Pile<R::Below>, AllocError)>
         ensures raises { λ r. ⌜ Cases r
             (λ x. R·Level .pile (x .top) ≡ raised (Below·Level .pile (below .top)) (R·Reduction .rules) (R·Reduction .rules .start (top (Below·Level .pile (below .top)))))
             (λ e. e .0 ≡ below) ⌝ }

@@ -1,5 +1,6 @@
 //! Why a call is declined: the refusals, each with its number and its word, and want of memory beside them.
 use std::alloc::AllocError;
+use std::error::Error;
 use std::fmt;
 ghost use mathlib.Core.Path.{_≡_};
 ghost use Rattle.std.specs.declared.option.Option.the-variants.{Some};
@@ -74,6 +75,17 @@ pub enum Failure {
     Refused(Refusal),
     OutOfMemory,
 }
+
+pub impl fmt::Display for Failure as FailureDisplay {
+    fn fmt<W: fmt::Write>(&self, f: &mut fmt::Formatter<W>) -> fmt::Result {
+        match self {
+            Failure::Refused(refusal) => write!(f, "refused: {refusal}"),
+            Failure::OutOfMemory => f.write_str("out of memory"),
+        }
+    }
+}
+
+pub impl Error for Failure as FailureError {}
 
 pub impl From<Refusal> for Failure as FailureFromRefusal {
     ghost converts = { λ x r. r ≡ Refused x };

@@ -138,13 +138,16 @@ ones-members a (suc k) =
 pub length-members : (k a : ℕ) → a < 2 ^ k → length (members a k) ≡ ones a
 length-members k a h = sym (ones-members a k) ∙ ap ones (mod-eq-of-lt h)
 
-
 pub members-few : (a k : ℕ) → length (members a k) ≤ k
 unfolding members
 members-few a zero = omega arith
 members-few a (suc k) =
-    omega (arith, length-append (members a k) (cond (has a k) (k ∷ []) []), members-few a k,
-    cond-both (has a k) (k ∷ []) [] (λ xs. length xs ≤ 1) (λ _. omega arith) (λ _. omega arith))
+    omega (
+      arith,
+      length-append (members a k) (cond (has a k) (k ∷ []) []),
+      members-few a k,
+      cond-both (has a k) (k ∷ []) [] (λ xs. length xs ≤ 1) (λ _. omega arith) (λ _. omega arith),
+    )
 
 pub ones-few : (k a : ℕ) → a < 2 ^ k → ones a ≤ k
 ones-few k a h = omega (arith, length-members k a h, members-few a k)

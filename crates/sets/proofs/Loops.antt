@@ -13,7 +13,6 @@ use Rattle.sets.specs.Limit.{limit}
 use Rattle.sets.specs.Sets.{has, Has, Subset, minus, collect, withMember, Visited}
 use Rattle.sets.proofs.Membership.{has-minus, has-single, has-empty, has-collect, collect-lt, same-below}
 
-
 -- `a >> i & 1 == 1`
 pub has-tested : (a i : ℕ) → eqb (bitAnd (a / 2 ^ i) 1) 1 ≡ has a i
 unfolding has
@@ -52,7 +51,6 @@ visited-more {P} {s} {rest} i v p = record {
 
 pub visited-all : {P : ℕ → Type 0} {s rest : ℕ} → Visited P s rest → rest ≡ 0 → (i : ℕ) → has s i ≡ true → P i
 visited-all {P} {s} {rest} v z i h = v .seen i h (ap (λ (x : ℕ). has x i) z ∙ has-empty i)
-
 
 -- a set within k places is what its own test picks
 pub collect-has : (k a : ℕ) → a < 2 ^ k → collect (has a) k ≡ a

@@ -56,7 +56,7 @@ apart-fed (c ∷ cs) w s a = (
     | inl e ↦ decides-meet (c .members .bits) s .0 e
     | inr e ↦ absurd (a (c .owner) h (sub-or-left (cond (meets (c .members .bits) s) 0 (2 ^ c .owner)) (unmet cs s) (c .owner) (lacking-in c s e)))
   ],
-  apart-fed cs w s (λ i h u. a i h (sub-or-right (cond (meets (c .members .bits) s) 0 (2 ^ c .owner)) (unmet cs s) i u))
+  apart-fed cs w s (λ i h u. a i h (sub-or-right (cond (meets (c .members .bits) s) 0 (2 ^ c .owner)) (unmet cs s) i u)),
 )
 
 -- one turn of the loop that collects the unmet owners: the clause at i, and those after it

@@ -53,7 +53,7 @@ pub sealed : (n p : ℕ) (cs : Vec Clause Global) (table : Vec ComponentSet Glob
     × (Owned p (vec-items cs) × (Known p (vec-items cs) × (Among p (vec-items table) × (Mutual (vec-items table) × (Irreflexive (vec-items table) × Unit {0}))))))))))
 sealed n p cs table w r s = (
   w .small,
-  (w .bounded, (table .ok .0 ∙ w .rows, (r, (omega (arith, w .few, cs .ok .0), (s, (w .owned, (w .known, (w .among, (w .mutuals, (w .irreflexive, tt))))))))))
+  (w .bounded, (table .ok .0 ∙ w .rows, (r, (omega (arith, w .few, cs .ok .0), (s, (w .owned, (w .known, (w .among, (w .mutuals, (w .irreflexive, tt)))))))))),
 )
 
 -- what is present is below the size, and below the limit

@@ -99,7 +99,12 @@ impl Sheet {
 }
 
 /// The conflict set of component `i`, once `component` conflicts with the others.
-fn opposed_set(conflicts: ComponentSet, component: usize, others: ComponentSet, i: usize) -> ComponentSet
+fn opposed_set(
+    conflicts: ComponentSet,
+    component: usize,
+    others: ComponentSet,
+    i: usize,
+) -> ComponentSet
     ensures { λ r. ⌜ r .bits ≡ opposedSet (conflicts .bits) component (others .bits) i ⌝ }
 {
     if i == component {

@@ -35,12 +35,11 @@ returns c =
     let inside : Subset x (m .present) = c .if-not-is-subset .ensures tt .cases in
     let met : Apart x (unmet (m .clauses) x) = subst (Apart x) (c .unmet .ensures) (c .if-intersects .ensures tt .cases) in
     let quiet : Decides (c .is-quiet .result) ((i : ℕ) → i < length (m .conflicts) → Has x i → Apart x (row (m .conflicts) i)) =
-    subst (λ (t : List ComponentSet). Decides (c .is-quiet .result) ((i : ℕ) → i < length t → Has x i → Apart x (row t i))) (c .as-slice .ensures .value) (c .is-quiet .ensures) in
-    (
+    subst (λ (t : List ComponentSet). Decides (c .is-quiet .result) ((i : ℕ) → i < length t → Has x i → Apart x (row t i))) (c .as-slice .ensures .value) (c .is-quiet .ensures) in (
       λ e. record {
         installation = inside;
         fed = apart-fed (m .clauses) x x met;
         quiet = λ i j hi hj o. quiet .0 e i (omega (arith, present-below m (formed s) i (inside i hi), formed s .rows)) hi j hj o;
       },
-      λ h. quiet .1 (λ i lt hi j hj o. h .quiet i j hi hj o)
+      λ h. quiet .1 (λ i lt hi j hj o. h .quiet i j hi hj o),
     )

@@ -17,10 +17,9 @@ loop-set-again c =
     let m = model (c .args .self .now) in
     let x = c .args .set .bits in
     let q = c .loop-set .supported .bits in
-    let is = c .narrowed-narrower .ensures in
-    (
+    let is = c .narrowed-narrower .ensures in (
       λ i h. c .loop-set .inv .0 i (narrowed-less (m .clauses) x q i (ap (λ s. has s i) (sym is) ∙ h)),
-      λ i h. ap (λ s. has s i) is ∙ narrowed-holds (m .clauses) x (support m x) q (support-closed m x .fed) (c .loop-set .inv .1) i h
+      λ i h. ap (λ s. has s i) is ∙ narrowed-holds (m .clauses) x (support m x) q (support-closed m x .fed) (c .loop-set .inv .1) i h,
     )
 
 pub loop-set-less : need.loop-set-less

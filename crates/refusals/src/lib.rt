@@ -69,6 +69,8 @@ pub impl fmt::Display for Refusal as RefusalDisplay {
     }
 }
 
+pub impl Error for Refusal as RefusalError {}
+
 /// Why something was not made: a refusal, or want of memory, which is no refusal and has no number.
 #[derive(Clone, Copy, PartialEq, Eq, Debug)]
 pub enum Failure {

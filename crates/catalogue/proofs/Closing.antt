@@ -1,19 +1,19 @@
 -- Closing a catalogue: the records' clashes become conflicts, one record after the other.
 use mathlib.Core.Path.{_≡_, refl, sym, ap, subst, _∙_}
-use mathlib.Core.Bool.{Bool, true, false, cond, _&&_, _||_}
+use mathlib.Core.Bool.{true, false}
 use mathlib.Core.Logic.{_⊎_, inl, inr}
-use mathlib.Core.List.{List, [], _∷_, map}
-use Prim.Native.Nat.{ℕ, zero, suc, _+_, _<_, _≤_}
+use mathlib.Core.List.{List, map}
+use Prim.Native.Nat.{ℕ, _+_, _<_, _≤_}
 use native.Mathlib.Omega.{arith}
 use lib.Dec.{ltb}
-use lib.ListN.{length, getD}
+use lib.ListN.{length}
 use Rattle.std.specs.Iters.{counting}
 use Rattle.std.specs.declared.result.Result.{Result}
 use Rattle.std.proofs.shelf.Counted.{fill-by-all}
 use Rattle.std.proofs.shelf.Lists.{getD-past}
 use Rattle.std.proofs.shelf.Tests.{cases-bool, cases-eq, cases-lt, both-ways, lt-ltb, and-from, and-parts, or-cases, or-left, or-right}
 use Rattle.sets.specs.Limit.{limit}
-use Rattle.sets.specs.Sets.{has, Has, Subset, within, below, collect}
+use Rattle.sets.specs.Sets.{has, Has, within, below, collect}
 use Rattle.sets.specs.declared.ComponentSet.{ComponentSet}
 use Rattle.sets.proofs.Membership.{has-empty, has-below-all, has-collect}
 use Rattle.sets.proofs.Order.{decides-sub, sub-antisym}

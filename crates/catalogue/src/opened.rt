@@ -1,7 +1,7 @@
 use crate::records::ComponentRecord;
 use sheets::Sheet;
 ghost use mathlib.Core.Path.{_≡_};
-ghost use Prim.Native.Nat.{ℕ, _≤_};
+ghost use Prim.Native.Nat.{_≤_};
 ghost use Rattle.std.specs.Of.Vec.{vec-items, vec-len, vec-cap};
 ghost use Rattle.sets.specs.Limit.{limit};
 ghost use Rattle.sets.specs.Sets.{below};

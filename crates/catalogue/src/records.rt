@@ -29,6 +29,8 @@ impl ComponentRecord {
     pub fn note(&mut self, component: usize)
         ensures { λ _. ⌜ now (self .exit) .clashes .bits ≡ withMember (now (self .entry) .clashes .bits) component ⌝ }
     {
-        self.clashes = self.clashes.with(component);
+        *self = ComponentRecord {
+            clashes: self.clashes.with(component),
+        };
     }
 }

@@ -1,19 +1,19 @@
 -- Levels that keep faith, one over the other, and runs of calls.
 use mathlib.Core.Path.{_≡_, refl, sym, ap, subst, _∙_}
 use mathlib.Core.List.{List, [], _∷_, _++_}
-use Prim.Native.Nat.{ℕ, _<_}
+use Prim.Native.Nat.{ℕ}
 use Rattle.std.specs.declared.result.Result.{Result}
 use Rattle.std.specs.declared.result.Result.the-variants.{Ok, Err}
 use Rattle.refusals.specs.declared.Refusal.{Refusal}
-use Rattle.sets.specs.Sets.{has, Has, Subset}
+use Rattle.sets.specs.Sets.{Has, Subset}
 use Rattle.sheets.specs.Sheets.{SheetModel, Formed}
 use Rattle.sheets.specs.Changes.{Goes}
-use Rattle.sheets.specs.Health.{Healthy, Coinstallable}
+use Rattle.sheets.specs.Health.{Coinstallable}
 use Rattle.sheets.proofs.Forms.{present-below}
 use Rattle.levels.specs.Piles.{Own, Rules, PileModel, ground, raised, top, base, image, lift, own, imageSet}
 use Rattle.levels.specs.Laws.{Keeps, Law, Sound, Reached, started, stepped, swept, settled}
 use Rattle.levels.specs.Runs.{Call, raise, step, sweep, read, after, afterStep, afterSweep, run, Faithful, Throughout, Main-law, Made}
-use Rattle.levels.proofs.Images.{image-from, image-has, image-again, image-same}
+use Rattle.levels.proofs.Images.{image-from, image-again, image-same}
 
 -- ---- composition
 

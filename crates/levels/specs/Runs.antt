@@ -3,7 +3,7 @@ use mathlib.Core.Path.{_≡_}
 use mathlib.Core.List.{List, [], _∷_}
 use Prim.Native.Nat.{ℕ}
 use Rattle.sheets.specs.Sheets.{SheetModel, Formed}
-use Rattle.levels.specs.Piles.{Own, Rules, PileModel, ground, raised, top, base, image, lift}
+use Rattle.levels.specs.Piles.{Rules, PileModel, ground, raised, top, base, image, lift}
 use Rattle.levels.specs.Laws.{Keeps, Sound, settled}
 
 -- what can be done to a pile: raising puts any reduction that keeps its law on top; steps and sweeps are those of the top; to read alters nothing

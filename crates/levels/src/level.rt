@@ -2,11 +2,10 @@ use refusals::Refusal;
 use sets::ComponentSet;
 use sheets::Sheet;
 ghost use mathlib.Core.Path.{_≡_};
-ghost use Prim.Native.Nat.{ℕ, _<_};
+ghost use Prim.Native.Nat.{_<_};
 ghost use lib.ListN.{length};
-ghost use Rattle.sheets.specs.Sheets.{SheetModel, model, found, opponents, Formed};
+ghost use Rattle.sheets.specs.Sheets.{model, found, opponents, Formed};
 ghost use Rattle.levels.specs.Piles.{PileModel, ground, top, base, image, lift, imaged, lifted};
-ghost use Rattle.levels.specs.Runs.{Made, Faithful, Throughout};
 
 /// A sheet over a ground: it knows which component here each ground component has become, and which ground set a set here stands for.
 pub trait Level {

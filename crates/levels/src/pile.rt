@@ -5,14 +5,12 @@ use refusals::Refusal;
 use std::alloc::AllocError;
 use std::alloc::Global;
 ghost use mathlib.Core.Path.{_≡_};
-ghost use Prim.Native.Nat.{ℕ};
 ghost use lib.ListN.{length};
 ghost use Rattle.std.specs.Results.{Cases};
 ghost use Rattle.std.specs.Vec.{made};
 ghost use Rattle.sets.specs.Sets.{count};
-ghost use Rattle.sheets.specs.Sheets.{SheetModel};
 ghost use Rattle.sheets.specs.Changes.{Goes};
-ghost use Rattle.levels.specs.Piles.{PileModel, ground, raised, top, base, own};
+ghost use Rattle.levels.specs.Piles.{ground, raised, top, base, own};
 ghost use Rattle.levels.specs.Laws.{Sound};
 ghost use Rattle.levels.specs.Runs.{Main-law, Made, Faithful, Throughout, afterStep, afterSweep};
 

@@ -9,7 +9,7 @@ ghost use Rattle.std.specs.declared.result.Result.{Result};
 ghost use Rattle.std.specs.declared.result.Result.the-variants.{Ok};
 ghost use Rattle.sheets.specs.Sheets.{SheetModel, Formed};
 ghost use Rattle.sheets.specs.Changes.{Goes};
-ghost use Rattle.levels.specs.Piles.{Own, Rules, PileModel, raised, top, own};
+ghost use Rattle.levels.specs.Piles.{Own, Rules, raised, top, own};
 ghost use Rattle.levels.specs.Laws.{Law};
 
 /// A level made from the one below it, which it takes in and lends only for reading, and altered by steps and a sweep.

@@ -1,13 +1,13 @@
 -- How many members a set has, and the list of them.
-use mathlib.Core.Path.{_≡_, refl, sym, ap, ap₂, _∙_, subst}
-use mathlib.Core.Bool.{Bool, true, false, cond, not, _&&_, _||_, and-self-left, and-true, and-false}
+use mathlib.Core.Path.{_≡_, refl, sym, ap, ap₂, _∙_}
+use mathlib.Core.Bool.{Bool, true, false, cond, not, _&&_, and-true, and-false}
 use mathlib.Core.Logic.{_⊎_, inl, inr}
-use Prim.Native.Nat.{ℕ, zero, suc, min, _+_, _-_, _*_, _/_, _%_, _^_, _≤_, _<_}
+use Prim.Native.Nat.{ℕ, zero, suc, _+_, _-_, _*_, _/_, _%_, _^_, _≤_, _<_}
 use native.Mathlib.Omega.{arith}
-use mathlib.Core.List.{List, [], _∷_, _++_, append-nil}
+use mathlib.Core.List.{[], _∷_, _++_}
 use native.Mathlib.Nat.{pow-suc, mod-lt, zero-lt-suc, one-mul, add-zero, add-comm, mod-eq-of-lt, mod-one}
-use native.Mathlib.Numerals.{add-one, one-add}
-use lib.Dec.{eqb, ltb}
+use native.Mathlib.Numerals.{one-add}
+use lib.Dec.{eqb}
 use lib.Arith.{bin-ind}
 use lib.Pow.{pow-pos, mod-pow-add}
 use lib.Bits.{bitAnd, bitOr, and-shr, and-mod, or-shr, or-mod, or-disjoint, or-add-and, and-comm}
@@ -16,7 +16,7 @@ use lib.ListN.{length, length-append}
 use Rattle.std.proofs.shelf.Tests.{eqb-true, eq-eqb, ne-eqb, cases-eq, cond-both}
 use Rattle.std.proofs.shelf.Ways.{tells}
 use Rattle.sets.specs.Limit.{limit}
-use Rattle.sets.specs.Sets.{has, Has, Subset, First, minus, members, count, within}
+use Rattle.sets.specs.Sets.{has, Subset, First, minus, members, count, within}
 use Rattle.sets.proofs.Membership.{has-and, has-minus, has-single, has-low, has-half, no-members, same-members, minus-split, sets}
 use Rattle.sets.proofs.Order.{decides-sub, some-member}
 

@@ -1,16 +1,15 @@
 -- Loops: over the numbers below a limit that pass a test, and over the members of a set.
-use mathlib.Core.Path.{_≡_, refl, sym, ap, ap₂, _∙_, subst}
-use mathlib.Core.Bool.{Bool, true, false, cond, not, _&&_, _||_, and-self-left, and-true, and-false}
+use mathlib.Core.Path.{_≡_, sym, ap, _∙_, subst}
+use mathlib.Core.Bool.{Bool, true, false, cond, not, _&&_}
 use mathlib.Core.Logic.{_⊎_, inl, inr}
-use Prim.Native.Nat.{ℕ, zero, suc, min, _+_, _-_, _*_, _/_, _%_, _^_, _≤_, _<_}
+use Prim.Native.Nat.{ℕ, _+_, _-_, _/_, _^_, _<_}
 use native.Mathlib.Omega.{arith}
 use native.Mathlib.Nat.{zero-add, one-mul}
 use native.Mathlib.Numerals.{add-one}
 use lib.Bits.{bitOr, or-comm, or-shifted, and-mask, bitAnd}
-use lib.Dec.{eqb, ltb}
-use Rattle.std.proofs.shelf.Tests.{cases-eq, both-ways, ne-eqb, and-parts, lt-ltb, cond-true, ltb-true}
-use Rattle.sets.specs.Limit.{limit}
-use Rattle.sets.specs.Sets.{has, Has, Subset, minus, collect, withMember, Visited}
+use lib.Dec.{eqb}
+use Rattle.std.proofs.shelf.Tests.{cases-eq, both-ways, ne-eqb, and-parts, lt-ltb}
+use Rattle.sets.specs.Sets.{has, minus, collect, Visited}
 use Rattle.sets.proofs.Membership.{has-minus, has-single, has-empty, has-collect, collect-lt, same-below}
 
 -- `a >> i & 1 == 1`

@@ -1,8 +1,8 @@
 -- Membership: the members of what each operation gives, and equality by members.
-use mathlib.Core.Path.{_≡_, refl, sym, ap, ap₂, _∙_, subst}
-use mathlib.Core.Bool.{Bool, true, false, cond, not, _&&_, _||_, and-self-left, and-true, and-false}
+use mathlib.Core.Path.{_≡_, refl, sym, ap, _∙_}
+use mathlib.Core.Bool.{Bool, true, false, cond, not, _&&_, _||_, and-self-left, and-true}
 use mathlib.Core.Logic.{_⊎_, inl, inr}
-use Prim.Native.Nat.{ℕ, zero, suc, min, _+_, _-_, _*_, _/_, _%_, _^_, _≤_, _<_}
+use Prim.Native.Nat.{ℕ, zero, suc, min, _+_, _-_, _/_, _%_, _^_, _≤_, _<_}
 use native.Mathlib.Omega.{arith}
 use native.Mathlib.Nat.{pow-suc, mod-lt, zero-lt-suc, zero-div, div-one, div-eq-of-lt, lt-of-lt-of-le, one-mul, zero-add, mod-eq-of-lt}
 use native.Mathlib.Numerals.{one-add}
@@ -13,7 +13,7 @@ use lib.Bits.{bitAnd, bitOr, bitXor, and-shr, and-mod, or-shr, or-mod, xor-shr, 
 use Rattle.std.proofs.shelf.Tests.{le-ltb, lt-ltb, cases-lt, cases-bool, cases-eq, both-ways, cond-both, cond-true, cond-false, ne-eqb}
 use Rattle.std.proofs.shelf.Ways.{tells}
 use Rattle.sets.specs.Limit.{limit}
-use Rattle.sets.specs.Sets.{has, Has, minus, collect, withMember, below}
+use Rattle.sets.specs.Sets.{has, minus, collect, withMember, below}
 
 two-pos : 0 < 2
 two-pos = zero-lt-suc 1

@@ -1,16 +1,16 @@
 -- The order of sets: subsets, sets that meet and sets that are apart, and what the tests decide.
-use mathlib.Core.Path.{_≡_, refl, sym, ap, ap₂, _∙_, subst}
-use mathlib.Core.Bool.{Bool, true, false, cond, not, _&&_, _||_, and-self-left, and-true, and-false}
+use mathlib.Core.Path.{_≡_, refl, sym, ap, _∙_, subst}
+use mathlib.Core.Bool.{Bool, true, false, not, _&&_, _||_}
 use mathlib.Core.Logic.{_⊎_, inl, inr}
-use Prim.Native.Nat.{ℕ, zero, suc, min, _+_, _-_, _*_, _/_, _%_, _^_, _≤_, _<_}
+use Prim.Native.Nat.{ℕ, suc, _-_, _%_, _<_}
 use native.Mathlib.Omega.{arith}
 use lib.Dec.{eqb}
 use lib.Arith.{bin-ind}
 use lib.Bits.{bitAnd, bitOr}
-use Rattle.std.proofs.shelf.Tests.{eqb-true, eqb-false, eq-eqb, cases-bool, both-ways, and-from, and-parts, not-true, not-false, not-from-true, or-left, or-right, or-cases, ne-eqb, not-from-false}
+use Rattle.std.proofs.shelf.Tests.{eqb-true, eqb-false, eq-eqb, cases-bool, both-ways, and-from, and-parts, not-true, or-left, or-right, or-cases, not-from-false}
 use Rattle.std.specs.Orderings.{Decides, When}
 use Rattle.sets.specs.Sets.{has, Has, Subset, Apart, Meet, Beyond, within, meets, minus}
-use Rattle.sets.proofs.Membership.{has-or, has-and, has-minus, has-single, has-empty, has-low, has-half, no-members, same-members, minus-split}
+use Rattle.sets.proofs.Membership.{has-or, has-and, has-minus, has-empty, has-low, has-half, no-members, same-members, minus-split}
 
 pub decides-sub : (a b : ℕ) → Decides (within a b) (Subset a b)
 unfolding within

@@ -1,15 +1,14 @@
 -- Which needs are met.
-use mathlib.Core.Path.{_≡_, refl, sym, ap, subst, _∙_}
+use mathlib.Core.Path.{_≡_, refl, sym, ap, _∙_}
 use mathlib.Core.Bool.{Bool, true, false, cond}
 use mathlib.Core.List.{List, [], _∷_}
 use mathlib.Core.Logic.{_⊎_, inl, inr}
 use Prim.Native.Nat.{ℕ, _+_, _<_, _^_}
 use lib.Bits.{bitOr}
-use lib.ListN.{length, getD, drop}
-use Rattle.std.specs.shelf.Lists.{All}
+use lib.ListN.{length, drop}
 use Rattle.std.proofs.shelf.Elements.{all-weaker}
 use Rattle.std.proofs.shelf.Lists.{at-drop-more}
-use Rattle.std.proofs.shelf.Tests.{cases-bool, both-ways, eqb-true, eq-eqb, cond-true, cond-false}
+use Rattle.std.proofs.shelf.Tests.{cases-bool, both-ways, eqb-true, eq-eqb, cond-false}
 use Rattle.sets.specs.Sets.{has, Has, Subset, Apart, Meet, meets}
 use Rattle.sets.proofs.Membership.{has-single, has-empty}
 use Rattle.sets.proofs.Order.{decides-meet, not-meet, meet-more, in-or, sub-or-left, sub-or-right, or-assoc}

@@ -1,34 +1,32 @@
 -- What every sheet keeps, and that each change keeps it.
 use mathlib.Core.Path.{_≡_, refl, sym, ap, subst, _∙_}
-use mathlib.Core.Bool.{Bool, true, false, cond, _&&_, _||_}
+use mathlib.Core.Bool.{true, false, _&&_, _||_}
 use mathlib.Core.Logic.{_⊎_, inl, inr}
-use mathlib.Core.List.{List, [], _∷_, _++_, map}
+use mathlib.Core.List.{List, [], _∷_, _++_}
 use Prim.Native.Nat.{ℕ, zero, suc, _+_, _<_, _≤_, _^_}
 use native.Mathlib.Nat.{pow-suc}
 use native.Mathlib.Omega.{arith}
 use native.Mathlib.Numerals.{add-one}
 use lib.Bits.{bitOr}
 use lib.Dec.{eqb, ltb}
-use lib.ListN.{length, getD}
-use lib.Pow.{pow-lt, pow-mono}
+use lib.ListN.{length}
 use Rattle.std.specs.Changed.{refilled}
-use Rattle.std.specs.Iters.{counting}
 use Rattle.std.specs.Of.Vec.{vec-items, vec-len, vec-cap}
 use Rattle.std.specs.declared.vec.Vec.{Vec}
 use Rattle.std.specs.declared.alloc.Global.{Global}
 use Rattle.std.proofs.shelf.Bits.{or-lt}
 use Rattle.std.proofs.shelf.Counted.{getD-map-counting, length-map-counting}
 use Rattle.std.proofs.shelf.Lists.{length-push, getD-push, getD-append-left, getD-past, refilled-is}
-use Rattle.std.proofs.shelf.Tests.{cases-bool, cases-eq, cases-lt, both-ways, eq-eqb, ne-eqb, eqb-true, lt-ltb, ltb-true, and-from, and-parts, or-left, or-right, or-cases, cond-true, cond-false}
+use Rattle.std.proofs.shelf.Tests.{cases-bool, cases-lt, both-ways, eq-eqb, eqb-true, lt-ltb, and-from, and-parts, or-left, or-right, or-cases, cond-true, cond-false}
 use borrow.Author.Count.{below-more}
 use Rattle.sets.specs.Limit.{limit}
 use Rattle.sets.specs.Sets.{has, Has, Subset, within, withMember}
 use Rattle.sets.specs.declared.ComponentSet.{ComponentSet}
-use Rattle.sets.proofs.Membership.{has-or, has-single, has-empty, has-with, has-below, with-is}
-use Rattle.sets.proofs.Order.{decides-sub, sub-or-left, sub-or-right, sub-none, in-or}
+use Rattle.sets.proofs.Membership.{has-empty, has-with, has-below, with-is}
+use Rattle.sets.proofs.Order.{decides-sub, sub-or-left, sub-or-right, in-or}
 use Rattle.sheets.specs.Limits.{maxClauses}
 use Rattle.sheets.specs.Clauses.{noClause, noSet, clauseAt, row, Owned, Known, Among, Mutual, Irreflexive}
-use Rattle.sheets.specs.Sheets.{SheetModel, model, Formed, conflictsOf}
+use Rattle.sheets.specs.Sheets.{SheetModel, model, Formed}
 use Rattle.sheets.specs.Changes.{blank, grown, withClauses, withConflicts, opposedRow, opposed}
 use Rattle.sheets.specs.declared.clause.Clause.{Clause}
 use Rattle.sheets.specs.declared.sheet.Sheet.{Sheet}

@@ -1,7 +1,7 @@
 -- The support is closed under needs, and holds every such set.
 use mathlib.Core.Path.{_≡_, refl, sym, ap, subst, _∙_}
 use mathlib.Core.List.{List}
-use mathlib.Core.Bool.{true, false, _&&_}
+use mathlib.Core.Bool.{false, _&&_}
 use mathlib.Core.Logic.{_⊎_, inl, inr}
 use Prim.Native.Nat.{ℕ, zero, suc, _≤_, _<_}
 use native.Mathlib.Omega.{arith}
@@ -9,13 +9,13 @@ use lib.Bits.{bitOr}
 use lib.Count.{ones}
 use lib.Dec.{eqb, ltb}
 use Rattle.std.proofs.shelf.Tests.{cases-bool, cases-eq, both-ways, lt-ltb, and-left, and-right}
-use Rattle.sets.specs.Sets.{has, Has, Subset, Apart, minus}
+use Rattle.sets.specs.Sets.{has, Has, Subset, Apart}
 use Rattle.sets.proofs.Membership.{collect-lt, has-collect, minus-split}
-use Rattle.sets.proofs.Order.{sub-refl, sub-none, sub-or-both, sub-minus, in-minus, minus-in, sub-antisym}
+use Rattle.sets.proofs.Order.{sub-refl, sub-or-both, sub-minus, in-minus, minus-in, sub-antisym}
 use Rattle.sets.proofs.Counts.{ones-grows, ones-few, ones-without}
 use Rattle.sheets.specs.Sheets.{SheetModel, Formed, conflictsOf}
 use Rattle.sheets.specs.Health.{Fed, isClear, clear}
-use Rattle.sheets.specs.Support.{ClosedUnderNeeds, unmet, narrowed, rounds, support, free}
+use Rattle.sheets.specs.Support.{ClosedUnderNeeds, unmet, narrowed, rounds, support}
 use Rattle.sheets.specs.declared.clause.Clause.{Clause}
 use Rattle.sheets.proofs.Forms.{present-below}
 use Rattle.sheets.proofs.Feeding.{fed-more, fed-apart, apart-fed}

@@ -1,6 +1,6 @@
 -- Worked examples, computed from the definitions.
 use mathlib.Core.Path.{_≡_}
-use mathlib.Core.List.{List, [], _∷_}
+use mathlib.Core.List.{[], _∷_}
 use Prim.Native.Nat.{ℕ}
 use Rattle.sets.specs.declared.ComponentSet.{ComponentSet}
 use Rattle.sheets.specs.Sheets.{SheetModel}

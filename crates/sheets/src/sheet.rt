@@ -1,7 +1,7 @@
 use crate::clause::Clause;
 use sets::ComponentSet;
 ghost use mathlib.Core.Path.{_≡_};
-ghost use Prim.Native.Nat.{ℕ, _^_, _<_, _≤_};
+ghost use Prim.Native.Nat.{_^_, _<_, _≤_};
 ghost use Rattle.std.specs.Of.Vec.{vec-items, vec-len, vec-cap};
 ghost use Rattle.sets.specs.Limit.{limit};
 ghost use Rattle.sheets.specs.Limits.{maxClauses};

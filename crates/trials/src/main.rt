@@ -26,7 +26,7 @@ use std::error::AnyError;
 use std::io;
 ghost use mathlib.Core.Path.{_≡_};
 ghost use Rattle.sheets.specs.Sheets.{model};
-ghost use Rattle.levels.specs.Piles.{Rules, raised, unchanged};
+ghost use Rattle.levels.specs.Piles.{raised, unchanged};
 ghost use Rattle.trials.specs.Unreduced.{unreducedRules};
 
 /// The smallest reduction there can be: it reduces nothing. It shows that the interface can be met, and by how little.

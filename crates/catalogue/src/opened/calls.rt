@@ -8,17 +8,15 @@ use sheets::Sheet;
 use std::alloc::AllocError;
 use std::alloc::Global;
 ghost use mathlib.Core.Path.{_≡_};
-ghost use mathlib.Core.Bool.{Bool, _||_};
-ghost use Prim.Native.Nat.{ℕ, _<_, _≤_};
+ghost use mathlib.Core.Bool.{_||_};
+ghost use Prim.Native.Nat.{ℕ, _<_};
 ghost use lib.ListN.{length};
-ghost use Rattle.std.specs.Of.Vec.{vec-items, vec-len, vec-cap};
 ghost use Rattle.std.specs.Vec.{made};
-ghost use Rattle.sets.specs.Limit.{limit};
 ghost use Rattle.sets.specs.Sets.{has};
 ghost use Rattle.sheets.specs.Changes.{Goes};
-ghost use Rattle.sheets.specs.Sheets.{SheetModel, model, conflictsOf};
-ghost use Rattle.catalogue.specs.Notes.{noted, Filled};
-ghost use Rattle.catalogue.specs.Drafts.{Draft, draft, emptyDraft, componentMade, needMade, clashMade, clash, closed};
+ghost use Rattle.sheets.specs.Sheets.{model, conflictsOf};
+ghost use Rattle.catalogue.specs.Notes.{Filled};
+ghost use Rattle.catalogue.specs.Drafts.{draft, emptyDraft, componentMade, needMade, clashMade, clash, closed};
 
 impl OpenCatalogue {
     /// A catalogue without components.
@@ -70,7 +68,7 @@ impl OpenCatalogue {
     {
         let OpenCatalogue { mut sheet, records } = self;
         complete(&mut sheet, records.as_slice());
-        ClosedCatalogue::new(sheet)
+        ClosedCatalogue { sheet }
     }
 }
 

@@ -8,17 +8,9 @@ use sets::ComponentSetPartialEq;
 use sets::ComponentSetSub;
 use sets::MembersIterator;
 ghost use mathlib.Core.Path.{_≡_};
-ghost use mathlib.Core.Bool.{true, _&&_};
-ghost use Prim.Native.Nat.{ℕ, _^_, _<_, _≤_};
-ghost use lib.Bits.{bitOr};
-ghost use lib.Dec.{eqb, ltb};
-ghost use lib.ListN.{length, getD};
-ghost use Rattle.std.specs.Of.Vec.{vec-items, vec-len, vec-cap};
-ghost use Rattle.std.specs.Orderings.{Decides};
-ghost use Rattle.sets.specs.Limit.{limit};
-ghost use Rattle.sets.specs.Sets.{has, Has, Subset, collect};
-ghost use Rattle.sheets.specs.Clauses.{clauseAt, row};
-ghost use Rattle.sheets.specs.Sheets.{SheetModel, model, found, opponents, conflictsOf, Formed};
+ghost use Prim.Native.Nat.{_<_};
+ghost use lib.ListN.{length};
+ghost use Rattle.sheets.specs.Sheets.{model, found, opponents, Formed};
 
 impl Sheet {
     /// How many numbers its components have: all are below this.

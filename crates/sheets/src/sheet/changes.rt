@@ -7,18 +7,10 @@ use sets::ComponentSetBitOr;
 use std::alloc::AllocError;
 use std::alloc::Global;
 ghost use mathlib.Core.Path.{_≡_};
-ghost use mathlib.Core.Bool.{true, cond};
-ghost use mathlib.Core.List.{[], _∷_, _++_};
-ghost use Prim.Native.Nat.{ℕ, _+_, _^_, _<_, _≤_};
-ghost use lib.ListN.{length, getD};
-ghost use Rattle.std.specs.Of.Vec.{vec-items, vec-len, vec-cap};
+ghost use Prim.Native.Nat.{_+_, _<_};
 ghost use Rattle.std.specs.Vec.{made};
-ghost use Rattle.sets.specs.Limit.{limit};
-ghost use Rattle.sets.specs.Sets.{has};
-ghost use Rattle.sheets.specs.Limits.{maxClauses};
-ghost use Rattle.sheets.specs.Clauses.{row, noSet};
-ghost use Rattle.sheets.specs.Sheets.{SheetModel, model};
-ghost use Rattle.sheets.specs.Changes.{Goes, blank, componentAdded, clauseAdded, conflictsAdded, opposedSet, opposedRow, opposed};
+ghost use Rattle.sheets.specs.Sheets.{model};
+ghost use Rattle.sheets.specs.Changes.{Goes, blank, componentAdded, clauseAdded, conflictsAdded, opposedSet, opposed};
 
 impl Sheet {
     /// How many clauses a sheet has at most.

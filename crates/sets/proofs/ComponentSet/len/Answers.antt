@@ -1,4 +1,3 @@
-use mathlib.Core.Path.{_∙_}
 use native.Mathlib.Omega.{arith}
 use lib.Count.{ones-le}
 use Rattle.sets.specs.Limit.{limit}

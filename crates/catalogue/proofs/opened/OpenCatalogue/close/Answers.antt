@@ -1,7 +1,6 @@
 use mathlib.Core.Path.{_≡_, sym, ap, subst, _∙_}
 use mathlib.Core.List.{List}
-use Rattle.sets.specs.Sets.{has}
-use Rattle.sheets.specs.Sheets.{model, conflictsOf}
+use Rattle.sheets.specs.Sheets.{model}
 use Rattle.catalogue.specs.Drafts.{Draft, draft, clash, closed}
 use Rattle.catalogue.specs.Notes.{Filled}
 use Rattle.catalogue.specs.declared.records.ComponentRecord.{ComponentRecord}
@@ -17,6 +16,6 @@ returns c =
     let with-records : List ComponentRecord → Draft = λ rs. record { clauses = cs; records = rs } in
     let is : with-records (c .as-slice .result .now) ≡ draft (c .args .self) = ap with-records (c .as-slice .ensures .value) in
     record {
-      sheet = ap model (c .new .ensures) ∙ c .complete .ensures .sheet ∙ ap closed is;
-      both = λ p q. ap (λ s. has (conflictsOf (model s) p) q) (c .new .ensures) ∙ c .complete .ensures .both p q ∙ ap (λ d. clash d p q) is;
+      sheet = c .complete .ensures .sheet ∙ ap closed is;
+      both = λ p q. c .complete .ensures .both p q ∙ ap (λ d. clash d p q) is;
     }

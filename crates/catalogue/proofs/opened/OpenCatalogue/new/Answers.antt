@@ -1,10 +1,10 @@
-use mathlib.Core.Path.{_≡_, sym, subst}
-use mathlib.Core.List.{List, []}
+use mathlib.Core.Path.{sym, subst}
+use mathlib.Core.List.{List}
 use Prim.Native.Nat.{_≤_}
 use borrow.Author.Needs.{needs}
 use Rattle.std.specs.Of.Vec.{vec-items, vec-cap}
 use Rattle.sets.specs.Limit.{limit}
-use Rattle.sheets.specs.Sheets.{SheetModel, model}
+use Rattle.sheets.specs.Sheets.{SheetModel}
 use Rattle.sheets.specs.Changes.{blank}
 use Rattle.catalogue.specs.Notes.{Filled}
 use Rattle.catalogue.specs.declared.records.ComponentRecord.{ComponentRecord}

@@ -1,8 +1,7 @@
-use mathlib.Core.Path.{_≡_, sym, ap, subst, _∙_}
+use mathlib.Core.Path.{_≡_, ap, subst}
 use Prim.Native.Nat.{ℕ}
 use lib.ListN.{length}
 use native.Mathlib.Omega.{arith}
-use Rattle.std.specs.declared.result.Result.{Result}
 use Rattle.sheets.specs.Sheets.{model}
 use Rattle.sheets.specs.Changes.{Goes, conflictsAdded}
 use Rattle.sheets.proofs.Forms.{formed}

@@ -1,6 +1,4 @@
-use mathlib.Core.Path.{_≡_, ap, _∙_}
 use borrow.Author.Needs.{needs}
-use Rattle.sets.specs.Sets.{count}
 use Rattle.levels.proofs.Keeping.{made-keeps}
 use Rattle.levels.proofs.pile.Pile.kernel_size.Needs as need
 

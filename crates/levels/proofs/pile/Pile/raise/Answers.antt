@@ -1,5 +1,5 @@
-use mathlib.Core.Path.{_≡_, refl, sym, ap, subst, _∙_}
-use Rattle.levels.specs.Piles.{PileModel, raised, top, own}
+use mathlib.Core.Path.{_≡_, sym, ap, subst, _∙_}
+use Rattle.levels.specs.Piles.{raised, top, own}
 use Rattle.levels.specs.Laws.{Sound}
 use Rattle.levels.specs.Runs.{raise, Made}
 use Rattle.levels.proofs.Keeping.{made-after, sound-from}

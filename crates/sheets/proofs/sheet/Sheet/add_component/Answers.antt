@@ -1,4 +1,4 @@
-use mathlib.Core.Path.{_≡_, refl, sym, subst}
+use mathlib.Core.Path.{refl, sym, subst}
 use Prim.Native.Nat.{_≤_, _+_}
 use borrow.Author.Needs.{needs}
 use native.Mathlib.Omega.{arith}

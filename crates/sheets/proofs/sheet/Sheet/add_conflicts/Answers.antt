@@ -1,9 +1,8 @@
 use mathlib.Core.Path.{_≡_, refl, sym, ap, subst, _∙_}
-use mathlib.Core.Bool.{true, false, _&&_}
+use mathlib.Core.Bool.{true, false}
 use mathlib.Core.List.{List}
 use borrow.Author.Needs.{needs}
 use Rattle.std.specs.Changed.{refilled}
-use Rattle.std.specs.Of.Vec.{vec-items}
 use Rattle.std.proofs.shelf.Tests.{and-from}
 use Rattle.sets.specs.Sets.{has, Has, within}
 use Rattle.sets.specs.declared.ComponentSet.{ComponentSet}

@@ -1,15 +1,10 @@
-use mathlib.Core.Path.{_≡_, sym, ap, _∙_}
-use mathlib.Core.Bool.{Bool, true, false, _&&_}
-use mathlib.Core.Logic.{_⊎_, inl, inr}
+use mathlib.Core.Path.{_≡_, ap, _∙_}
 use mathlib.Core.List.{List}
 use Prim.Native.Nat.{ℕ}
-use lib.Dec.{ltb}
 use lib.ListN.{length}
 use Rattle.std.specs.Of.Vec.{vec-items}
-use Rattle.std.proofs.shelf.Tests.{cases-bool, and-left, and-right, lt-ltb}
 use Rattle.sets.specs.Sets.{has, collect}
 use Rattle.sets.specs.declared.ComponentSet.{ComponentSet}
-use Rattle.sets.proofs.Membership.{has-collect}
 use Rattle.sheets.specs.Sheets.{model}
 use Rattle.sheets.specs.Health.{isClear, clear}
 use Rattle.sheets.proofs.Forms.{formed}

@@ -1,4 +1,4 @@
-use mathlib.Core.Path.{_≡_, refl, sym, ap, subst, _∙_}
+use mathlib.Core.Path.{_≡_, sym, ap, subst, _∙_}
 use lib.Bits.{bitOr}
 use Rattle.sets.specs.Sets.{Subset}
 use Rattle.sets.proofs.Order.{sub-or-right}

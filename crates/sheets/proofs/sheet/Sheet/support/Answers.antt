@@ -1,9 +1,9 @@
-use mathlib.Core.Path.{_≡_, refl, sym, ap, subst, _∙_}
+use mathlib.Core.Path.{_≡_, sym, ap, subst, _∙_}
 use Prim.Native.Nat.{_<_}
 use Rattle.std.proofs.shelf.Tests.{both-ways}
 use Rattle.sets.specs.Sets.{has, Subset}
 use Rattle.sheets.specs.Sheets.{model}
-use Rattle.sheets.specs.Support.{ClosedUnderNeeds, narrowed, support}
+use Rattle.sheets.specs.Support.{ClosedUnderNeeds, support}
 use Rattle.sheets.proofs.Supports.{narrowed-less, narrowed-holds, narrowed-lower, support-closed, support-greatest, support-is}
 use Rattle.sheets.proofs.sheet.Sheet.support.Needs as need
 

@@ -149,6 +149,9 @@ goes-settled : (q : Result Own Refusal) (a : Result (Unit {0}) Refusal) (old new
 goes-settled (Ok n) a old new h = h .1
 goes-settled (Err e) a old new h = h .1
 
+pub raise-is : (q b c : PileModel) (r : Rules) (o : Own) → q ≡ raised c r (own q) → c ≡ b → own q ≡ o → q ≡ raised b r o
+raise-is q b c r o is e f = is ∙ ap (λ x. raised x r (own q)) e ∙ ap (raised b r) f
+
 module _ (p q b : PileModel) (r : Rules) (before : p ≡ raised b r (own p)) (behind : q ≡ raised b r (own q)) where
   pub step-is : (u v : ℕ) (a : Result (Unit {0}) Refusal) → Goes (r .moved (top b) (own p) u v) tt a (own p) (own q) → q ≡ afterStep p u v
   step-is u v a h = behind ∙ ap (raised b r) (goes-settled (r .moved (top b) (own p) u v) a (own p) (own q) h) ∙ ap (λ x. afterStep x u v) (sym before)

@@ -1,7 +1,7 @@
-use mathlib.Core.Path.{_≡_, sym, ap, subst, _∙_}
+use mathlib.Core.Path.{sym, ap, subst, _∙_}
 use mathlib.Core.List.{List}
 use Rattle.sheets.specs.Sheets.{model}
-use Rattle.catalogue.specs.Drafts.{Draft, draft, clash, closed}
+use Rattle.catalogue.specs.Drafts.{clash, closed}
 use Rattle.catalogue.specs.Notes.{Filled}
 use Rattle.catalogue.specs.declared.records.ComponentRecord.{ComponentRecord}
 use Rattle.catalogue.proofs.Filling.{filled}
@@ -13,9 +13,8 @@ complete-requires c κs = subst (λ (rs : List ComponentRecord). Filled (model (
 pub returns : need.returns
 returns c =
     let cs = model (c .args .self .sheet) .clauses in
-    let with-records : List ComponentRecord → Draft = λ rs. record { clauses = cs; records = rs } in
-    let is : with-records (c .as-slice .result .now) ≡ draft (c .args .self) = ap with-records (c .as-slice .ensures .value) in
+    let same = c .as-slice .ensures .value in
     record {
-      sheet = c .complete .ensures .sheet ∙ ap closed is;
-      both = λ p q. c .complete .ensures .both p q ∙ ap (λ d. clash d p q) is;
+      sheet = c .complete .ensures .sheet ∙ ap (λ (rs : List ComponentRecord). closed (record { clauses = cs; records = rs })) same;
+      both = λ p q. c .complete .ensures .both p q ∙ ap (λ (rs : List ComponentRecord). clash (record { clauses = cs; records = rs }) p q) same;
     }

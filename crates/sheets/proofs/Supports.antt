@@ -15,7 +15,7 @@ use Rattle.sets.proofs.Order.{sub-refl, sub-or-both, sub-minus, in-minus, minus
 use Rattle.sets.proofs.Counts.{ones-grows, ones-few, ones-without}
 use Rattle.sheets.specs.Sheets.{SheetModel, Formed, conflictsOf}
 use Rattle.sheets.specs.Health.{Fed, isClear, clear}
-use Rattle.sheets.specs.Support.{ClosedUnderNeeds, unmet, narrowed, rounds, support}
+use Rattle.sheets.specs.Support.{Supported, unmet, narrowed, rounds, support}
 use Rattle.sheets.specs.declared.clause.Clause.{Clause}
 use Rattle.sheets.proofs.Forms.{present-below}
 use Rattle.sheets.proofs.Feeding.{fed-more, fed-apart, apart-fed}
@@ -96,12 +96,12 @@ module _ (m : SheetModel) where
   unfolding support clear
   support-fed x = rounds-end (m .size) (m .clauses) x (clear m) (ones-few (m .size) (clear m) (collect-lt _ (m .size)))
 
-  pub support-closed : (x : ℕ) → ClosedUnderNeeds m x (support m x)
-  support-closed x = record { clears = support-clear x; fed = support-fed x }
+  pub support-closed : (x : ℕ) → Supported m x (support m x)
+  support-closed x = record { clears = support-clear x; closed = support-fed x }
 
-  pub support-greatest : (x q : ℕ) → ClosedUnderNeeds m x q → Subset q (support m x)
+  pub support-greatest : (x q : ℕ) → Supported m x q → Subset q (support m x)
   unfolding support
-  support-greatest x q c = rounds-hold (m .size) (m .clauses) x q (clear m) (c .fed) (c .clears)
+  support-greatest x q c = rounds-hold (m .size) (m .clauses) x q (clear m) (c .closed) (c .clears)
 
   -- it grows with the set
   pub support-grows : (x y : ℕ) → Subset x y → Subset (support m x) (support m y)
@@ -109,13 +109,13 @@ module _ (m : SheetModel) where
       support-greatest y (support m x)
       (record {
         clears = support-clear x;
-        fed = fed-more (m .clauses) (support m x) (bitOr x (support m x)) (bitOr y (support m x)) (sub-or-both x (support m x) y (support m x) s (sub-refl (support m x))) (support-fed x);
+        closed = fed-more (m .clauses) (support m x) (bitOr x (support m x)) (bitOr y (support m x)) (sub-or-both x (support m x) y (support m x) s (sub-refl (support m x))) (support-fed x);
       })
 
   -- it alone is closed and holds every closed set
-  pub support-only : (x q : ℕ) → ClosedUnderNeeds m x q → ((p : ℕ) → ClosedUnderNeeds m x p → Subset p q) → q ≡ support m x
+  pub support-only : (x q : ℕ) → Supported m x q → ((p : ℕ) → Supported m x p → Subset p q) → q ≡ support m x
   support-only x q c g = sub-antisym q (support m x) (support-greatest x q c) (g (support m x) (support-closed x))
 
   -- a closed set that holds the support is the support: where the narrowing ends
   pub support-is : (x q : ℕ) → Subset q (clear m) → Subset (support m x) q → narrowed (m .clauses) x q ≡ q → q ≡ support m x
-  support-is x q c s e = sub-antisym q (support m x) (support-greatest x q (record { clears = c; fed = narrowed-stays (m .clauses) x q e })) s
+  support-is x q c s e = sub-antisym q (support m x) (support-greatest x q (record { clears = c; closed = narrowed-stays (m .clauses) x q e })) s

@@ -9,10 +9,14 @@ use Rattle.sheets.specs.declared.clause.Clause.{Clause}
 use Rattle.sheets.specs.Sheets.{SheetModel}
 use Rattle.sheets.specs.Health.{Fed, clear}
 
--- q is a set of clear components whose clauses each have a member in x or in q
-pub record ClosedUnderNeeds (m : SheetModel) (x q : ℕ) : Type 0 where
+-- q is closed under needs beside x: each clause that a component of q owns has a member in x or in q
+abbrev pub ClosedUnderNeeds : SheetModel → ℕ → ℕ → Type 0
+ClosedUnderNeeds m x q = Fed (m .clauses) q (bitOr x q)
+
+-- q is one of the sets of which the support of x is the greatest
+pub record Supported (m : SheetModel) (x q : ℕ) : Type 0 where
   pub clears : Subset q (clear m)
-  pub fed : Fed (m .clauses) q (bitOr x q)
+  pub closed : ClosedUnderNeeds m x q
 
 -- the owners of the clauses that have no member in s
 unfoldable pub unmet : List Clause → ℕ → ℕ

@@ -15,7 +15,7 @@ ghost use Rattle.sets.specs.Sets.{has, Has, Subset, Apart, collect};
 ghost use Rattle.sheets.specs.Clauses.{clauseAt, row};
 ghost use Rattle.sheets.specs.Sheets.{model};
 ghost use Rattle.sheets.specs.Health.{Healthy, Fed, isClear, clear};
-ghost use Rattle.sheets.specs.Support.{ClosedUnderNeeds, unmet, narrowed, support, free};
+ghost use Rattle.sheets.specs.Support.{Supported, unmet, narrowed, support, free};
 ghost use Rattle.sheets.specs.Examples.{Examples};
 
 impl Sheet {
@@ -43,8 +43,8 @@ impl Sheet {
     /// The support of a set: the greatest set of clear components each of whose needs is met by the set or by itself.
     pub fn support(&self, set: ComponentSet) -> ComponentSet
         ensures value { λ r. ⌜ r .bits ≡ support (model (now (self .entry))) (set .bits) ⌝ }
-        ensures closed { λ r. ⌜ ClosedUnderNeeds (model (now (self .entry))) (set .bits) (r .bits) ⌝ }
-        ensures greatest { λ r. ⌜ ((q : ℕ) → ClosedUnderNeeds (model (now (self .entry))) (set .bits) q → Subset q (r .bits)) ⌝ }
+        ensures closed { λ r. ⌜ Supported (model (now (self .entry))) (set .bits) (r .bits) ⌝ }
+        ensures greatest { λ r. ⌜ ((q : ℕ) → Supported (model (now (self .entry))) (set .bits) q → Subset q (r .bits)) ⌝ }
     {
         let mut supported = self.clear_components();
         loop {

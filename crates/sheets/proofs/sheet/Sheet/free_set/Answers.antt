@@ -16,6 +16,6 @@ returns c =
     let is : c .support .result .bits ≡ free m = c .support .ensures .value ∙ ap (support m) (c .empty .ensures .value) in
     record {
       value = is;
-      rings = λ q l f. subst (Subset q) (sym is) (support-greatest m 0 q (record { clears = l; fed = fed-more (m .clauses) q q (bitOr 0 q) (sub-or-right 0 q) f }));
+      rings = λ q l f. subst (Subset q) (sym is) (support-greatest m 0 q (record { clears = l; closed = fed-more (m .clauses) q q (bitOr 0 q) (sub-or-right 0 q) f }));
       examples = examples;
     }

@@ -3,7 +3,7 @@ use Prim.Native.Nat.{_<_}
 use Rattle.std.proofs.shelf.Tests.{both-ways}
 use Rattle.sets.specs.Sets.{has, Subset}
 use Rattle.sheets.specs.Sheets.{model}
-use Rattle.sheets.specs.Support.{ClosedUnderNeeds, support}
+use Rattle.sheets.specs.Support.{Supported, support}
 use Rattle.sheets.proofs.Supports.{narrowed-less, narrowed-holds, narrowed-lower, support-closed, support-greatest, support-is}
 use Rattle.sheets.proofs.sheet.Sheet.support.Needs as need
 
@@ -19,7 +19,7 @@ loop-set-again c =
     let q = c .loop-set .supported .bits in
     let is = c .narrowed-narrower .ensures in (
       λ i h. c .loop-set .inv .0 i (narrowed-less (m .clauses) x q i (ap (λ s. has s i) (sym is) ∙ h)),
-      λ i h. ap (λ s. has s i) is ∙ narrowed-holds (m .clauses) x (support m x) q (support-closed m x .fed) (c .loop-set .inv .1) i h,
+      λ i h. ap (λ s. has s i) is ∙ narrowed-holds (m .clauses) x (support m x) q (support-closed m x .closed) (c .loop-set .inv .1) i h,
     )
 
 pub loop-set-less : need.loop-set-less
@@ -39,6 +39,6 @@ returns-then-eq c =
     let done : q ≡ support m x = support-is m x q (c .loop-set .inv .0) (c .loop-set .inv .1) (sym is ∙ c .eq .ensures .0 (c .if-eq .taken)) in
     record {
       value = done;
-      closed = subst (ClosedUnderNeeds m x) (sym done) (support-closed m x);
+      closed = subst (Supported m x) (sym done) (support-closed m x);
       greatest = λ p h. subst (Subset p) (sym done) (support-greatest m x p h);
     }

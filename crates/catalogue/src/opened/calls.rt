@@ -16,6 +16,7 @@ ghost use Rattle.sets.specs.Sets.{has};
 ghost use Rattle.sheets.specs.Changes.{Goes};
 ghost use Rattle.sheets.specs.Sheets.{model, conflictsOf};
 ghost use Rattle.catalogue.specs.Notes.{Filled};
+ghost use Rattle.catalogue.specs.Examples.{Examples};
 ghost use Rattle.catalogue.specs.Drafts.{draft, emptyDraft, componentMade, needMade, clashMade, clash, closed};
 
 impl OpenCatalogue {
@@ -65,6 +66,7 @@ impl OpenCatalogue {
     pub fn close(self) -> ClosedCatalogue
         ensures sheet { λ r. ⌜ model (r .sheet) ≡ closed (draft self) ⌝ }
         ensures both { λ r. ⌜ ((p q : ℕ) → has (conflictsOf (model (r .sheet)) p) q ≡ clash (draft self) p q) ⌝ }
+        ensures examples { λ _. ⌜ Examples ⌝ }
     {
         let OpenCatalogue { mut sheet, records } = self;
         complete(&mut sheet, records.as_slice());

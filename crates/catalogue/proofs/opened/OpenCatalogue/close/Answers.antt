@@ -4,6 +4,7 @@ use Rattle.sheets.specs.Sheets.{model}
 use Rattle.catalogue.specs.Drafts.{clash, closed}
 use Rattle.catalogue.specs.Notes.{Filled}
 use Rattle.catalogue.specs.declared.records.ComponentRecord.{ComponentRecord}
+use Rattle.catalogue.proofs.Examples.{examples}
 use Rattle.catalogue.proofs.Filling.{filled}
 use Rattle.catalogue.proofs.opened.OpenCatalogue.close.Needs as need
 
@@ -17,4 +18,5 @@ returns c =
     record {
       sheet = c .complete .ensures .sheet ∙ ap (λ (rs : List ComponentRecord). closed (record { clauses = cs; records = rs })) same;
       both = λ p q. c .complete .ensures .both p q ∙ ap (λ (rs : List ComponentRecord). clash (record { clauses = cs; records = rs }) p q) same;
+      examples = examples;
     }

@@ -1,6 +1,6 @@
 -- What every sheet keeps, and that each change keeps it.
 use mathlib.Core.Path.{_≡_, refl, sym, ap, subst, _∙_}
-use mathlib.Core.Bool.{true, false, _&&_, _||_}
+use mathlib.Core.Bool.{Bool, true, false, _&&_, _||_}
 use mathlib.Core.Logic.{_⊎_, inl, inr}
 use mathlib.Core.List.{List, [], _∷_, _++_}
 use Prim.Native.Nat.{ℕ, zero, suc, _+_, _<_, _≤_, _^_}
@@ -252,6 +252,45 @@ opposed-formed m p qs w h q other = record {
     never i (before g) = both-ways (has (row table i) i) (w .irreflexive i) g
     never i (forward e g) = both-ways (has qs p) other (ap (has qs) (sym e) ∙ g)
     never i (backward e g) = both-ways (has qs p) other (ap (has qs) (sym e) ∙ g)
+
+-- the conflicts after the change, in one equation
+abbrev opposes : List ComponentSet → ℕ → ℕ → ℕ → ℕ → Bool
+opposes table p qs i j = has (row table i) j || ((eqb i p && has qs j) || (eqb j p && has qs i))
+
+pub opposed-both : (m : SheetModel) (p qs : ℕ) → Formed m → Has (m .present) p → within qs (m .present) ≡ true → has qs p ≡ false → (i j : ℕ)
+    → has (row (opposed (m .conflicts) p qs) i) j ≡ opposes (m .conflicts) p qs i j
+opposed-both m p qs w h q other i j = go (cases-bool (has (row (opposed (m .conflicts) p qs) i) j)) (cases-bool (opposes (m .conflicts) p qs i j))
+  where
+    small : p < limit
+    small = present-limit m w p h
+
+    to-told : Opposes (m .conflicts) p qs i j → opposes (m .conflicts) p qs i j ≡ true
+    to-told (before g) = or-left (has (row (m .conflicts) i) j) _ g
+    to-told (forward e g) = or-right (has (row (m .conflicts) i) j) _ (or-left (eqb i p && has qs j) _ (and-from (eqb i p) (has qs j) (eq-eqb i p e) g))
+    to-told (backward e g) = or-right (has (row (m .conflicts) i) j) _ (or-right (eqb i p && has qs j) _ (and-from (eqb j p) (has qs i) (eq-eqb j p e) g))
+
+    from-told : opposes (m .conflicts) p qs i j ≡ true → Opposes (m .conflicts) p qs i j
+    from-told t = elim (or-cases (has (row (m .conflicts) i) j) _ t) [
+      | inl g ↦ before g
+      | inr u ↦ elim (or-cases (eqb i p && has qs j) _ u) [
+        | inl g ↦ (let a = and-parts (eqb i p) (has qs j) g in forward (eqb-true i p (a .0)) (a .1))
+        | inr g ↦ (let a = and-parts (eqb j p) (has qs i) g in backward (eqb-true j p (a .0)) (a .1))
+      ]
+    ]
+
+    -- i is a component
+    there : Opposes (m .conflicts) p qs i j → Has (m .present) i
+    there (before g) = decides-sub (row (m .conflicts) j) (m .present) .0 (w .among j) i (w .mutuals i j g)
+    there (forward e g) = ap (has (m .present)) e ∙ h
+    there (backward e g) = decides-sub qs (m .present) .0 q i g
+
+    go : (has (row (opposed (m .conflicts) p qs) i) j ≡ true) ⊎ (has (row (opposed (m .conflicts) p qs) i) j ≡ false) → (opposes (m .conflicts) p qs i j ≡ true) ⊎ (opposes (m .conflicts) p qs i j ≡ false)
+        → has (row (opposed (m .conflicts) p qs) i) j ≡ opposes (m .conflicts) p qs i j
+    go (inl g) t = g ∙ sym (to-told (opposed-from (m .conflicts) p qs small other i j g))
+    go (inr g) (inl t) =
+        let o = from-told t in
+        absurd (both-ways (has (row (opposed (m .conflicts) p qs) i) j) g (opposed-has (m .conflicts) p qs small other i j (omega (arith, w .rows, present-below m w i (there o))) o))
+    go (inr g) (inr t) = g ∙ sym t
 
 -- what the code makes of the table
 pub refilled-opposed : (t : Vec ComponentSet Global) (ws : List ComponentSet) (p qs : ℕ) → ws ≡ opposed (vec-items t) p qs → vec-items (refilled t ws) ≡ opposed (vec-items t) p qs

@@ -7,9 +7,12 @@ use sets::ComponentSetBitOr;
 use std::alloc::AllocError;
 use std::alloc::Global;
 ghost use mathlib.Core.Path.{_≡_};
-ghost use Prim.Native.Nat.{_+_, _<_};
+ghost use mathlib.Core.Bool.{_&&_, _||_};
+ghost use Prim.Native.Nat.{ℕ, _+_, _<_};
+ghost use lib.Dec.{eqb};
 ghost use Rattle.std.specs.Vec.{made};
-ghost use Rattle.sheets.specs.Sheets.{model};
+ghost use Rattle.sets.specs.Sets.{has};
+ghost use Rattle.sheets.specs.Sheets.{model, conflictsOf};
 ghost use Rattle.sheets.specs.Changes.{Goes, blank, componentAdded, clauseAdded, conflictsAdded, opposedSet, opposed};
 
 impl Sheet {
@@ -77,7 +80,8 @@ impl Sheet {
     /// A component conflicts with each of the others from now on, and each of them with it.
     /// No-component where one is not present, then self-clash where it is among the others.
     pub fn add_conflicts(&mut self, component: usize, others: ComponentSet) -> Result<(), Refusal>
-        ensures { λ r. ⌜ Goes (conflictsAdded (model (now (self .entry))) component (others .bits)) tt r (model (now (self .entry))) (model (now (self .exit))) ⌝ }
+        ensures goes { λ r. ⌜ Goes (conflictsAdded (model (now (self .entry))) component (others .bits)) tt r (model (now (self .entry))) (model (now (self .exit))) ⌝ }
+        ensures both { λ r. ⌜ made r (λ _. (i j : ℕ) → has (conflictsOf (model (now (self .exit))) i) j ≡ (has (conflictsOf (model (now (self .entry))) i) j || ((eqb i component && has (others .bits) j) || (eqb j component && has (others .bits) i)))) ⌝ }
     {
         if !self.present.contains(component) || !others.is_subset(self.present) {
             return Err(Refusal::NoComponent);

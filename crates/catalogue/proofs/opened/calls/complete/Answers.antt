@@ -20,7 +20,7 @@ loop-component-again c =
     let s = c .loop-component .sheet in
     let is : c .clashes .result .bits ≡ noted rs k = ap (λ x. x .bits) (c .clashes .ensures) in
     closing-more (model e) rs (c .pre) (formed e) (model s) k (c .loop-component .inv) (formed s) (c .loop-component-test .taken) (c .add-conflicts .result) (model (c .add-conflicts .last .self))
-    (subst (λ (qs : ℕ). Goes (conflictsAdded (model s) k qs) tt (c .add-conflicts .result) (model s) (model (c .add-conflicts .last .self))) is (c .add-conflicts .ensures))
+    (subst (λ (qs : ℕ). Goes (conflictsAdded (model s) k qs) tt (c .add-conflicts .result) (model s) (model (c .add-conflicts .last .self))) is (c .add-conflicts .ensures .goes))
 
 pub returns : need.returns
 returns c =

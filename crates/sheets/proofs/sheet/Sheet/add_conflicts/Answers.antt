@@ -7,8 +7,9 @@ use Rattle.std.proofs.shelf.Tests.{and-from}
 use Rattle.sets.specs.Sets.{has, Has, within}
 use Rattle.sets.specs.declared.ComponentSet.{ComponentSet}
 use Rattle.sheets.specs.Sheets.{model, Formed}
+use Rattle.sheets.specs.Clauses.{row}
 use Rattle.sheets.specs.Changes.{opposed, withConflicts}
-use Rattle.sheets.proofs.Forms.{formed, sealed, opposed-formed, refilled-opposed}
+use Rattle.sheets.proofs.Forms.{formed, sealed, opposed-formed, opposed-both, refilled-opposed}
 use Rattle.sheets.proofs.sheet.Sheet.add_conflicts.Needs as need
 
 pub ghost-self : need.ghost-self
@@ -34,4 +35,7 @@ returns c =
     let n : has qs p ≡ false = search needs in
     let is = refilled-opposed (s .conflicts) (c .oppose .last .table) p qs (c .oppose .ensures ∙ ap (λ (t : List ComponentSet). opposed t p qs) (c .as-mut-slice .ensures .value)) in
     let both = and-from (has (m .present) p) (within qs (m .present)) h q in
-    rw (both, n) (refl, ap (withConflicts m) is)
+    record {
+      goes = rw (both, n) (refl, ap (withConflicts m) is);
+      both = λ i j. ap (λ (t : List ComponentSet). has (row t i) j) is ∙ opposed-both m p qs (formed s) h q n i j;
+    }

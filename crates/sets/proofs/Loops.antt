@@ -2,22 +2,22 @@
 use mathlib.Core.Path.{_≡_, sym, ap, _∙_, subst}
 use mathlib.Core.Bool.{Bool, true, false, cond, not, _&&_}
 use mathlib.Core.Logic.{_⊎_, inl, inr}
-use Prim.Native.Nat.{ℕ, _+_, _-_, _/_, _^_, _<_}
+use Prim.Native.Nat.{ℕ, _+_, _-_, _/_, _^_}
 use native.Mathlib.Omega.{arith}
 use native.Mathlib.Nat.{zero-add, one-mul}
 use native.Mathlib.Numerals.{add-one}
 use lib.Bits.{bitOr, or-comm, or-shifted, and-mask, bitAnd}
 use lib.Dec.{eqb}
-use Rattle.std.proofs.shelf.Tests.{cases-eq, both-ways, ne-eqb, and-parts, lt-ltb}
-use Rattle.sets.specs.Sets.{has, minus, collect, Visited}
-use Rattle.sets.proofs.Membership.{has-minus, has-single, has-empty, has-collect, collect-lt, same-below}
+use Rattle.std.proofs.shelf.Tests.{cases-eq, both-ways, ne-eqb, and-parts}
+use Rattle.sets.specs.Sets.{has, Has, Subset, minus, collect}
+use Rattle.sets.proofs.Membership.{has-minus, has-single, has-empty, collect-lt}
 
 -- `a >> i & 1 == 1`
 pub has-tested : (a i : ℕ) → eqb (bitAnd (a / 2 ^ i) 1) 1 ≡ has a i
 unfolding has
 has-tested a i = ap (λ (x : ℕ). eqb x 1) (and-mask (a / 2 ^ i) 1)
 
--- ---- loops
+-- ---- loops over numbers, and over members
 
 -- one more number, at which p holds or not
 pub collect-with : (p : ℕ → Bool) (n : ℕ) → p n ≡ true → collect p (n + 1) ≡ bitOr (collect p n) (2 ^ n)
@@ -30,7 +30,11 @@ pub collect-without : (p : ℕ → Bool) (n : ℕ) → p n ≡ false → collect
 unfolding collect
 collect-without p n e = ap (collect p) (add-one n) ∙ ap (λ b. cond b (2 ^ n) 0 + collect p n) e ∙ zero-add (collect p n)
 
--- a loop over the members
+-- A loop over the members of s, of which rest are still to come: P holds of each that has come.
+pub record Visited (P : ℕ → Type 0) (s rest : ℕ) : Type 0 where
+  pub from : Subset rest s
+  pub seen : (i : ℕ) → Has s i → has rest i ≡ false → P i
+
 pub visited-none : (P : ℕ → Type 0) (s : ℕ) → Visited P s s
 visited-none P s = record { from = λ i h. h; seen = λ i h k. absurd (both-ways (has s i) k h) }
 
@@ -50,9 +54,3 @@ visited-more {P} {s} {rest} i v p = record {
 
 pub visited-all : {P : ℕ → Type 0} {s rest : ℕ} → Visited P s rest → rest ≡ 0 → (i : ℕ) → has s i ≡ true → P i
 visited-all {P} {s} {rest} v z i h = v .seen i h (ap (λ (x : ℕ). has x i) z ∙ has-empty i)
-
--- a set within k places is what its own test picks
-pub collect-has : (k a : ℕ) → a < 2 ^ k → collect (has a) k ≡ a
-collect-has k a h =
-    same-below k (collect (has a) k) a (collect-lt (has a) k) h
-    (λ i lt. has-collect (has a) k i ∙ ap (λ t. t && has a i) (lt-ltb i k lt))

@@ -187,9 +187,6 @@ minus-split a b =
     (λ i. has-and a (bitAnd a b) i ∙ ap (λ t. has a i && t) (has-and a b i) ∙ and-self-left (has a i) (has b i) ∙ sym (has-and a b i)) in
     omega (arith, xor-add-and a (bitAnd a b), c)
 
-pub minus-lt : (k a b : ℕ) → a < 2 ^ k → minus a b < 2 ^ k
-minus-lt k a b h = omega (arith, minus-split a b)
-
 -- s with i: limit places are enough for it
 pub has-with : (s i j : ℕ) → has (withMember s i) j ≡ (has s j || (eqb j i && ltb j limit))
 unfolding withMember

@@ -82,9 +82,6 @@ decides-meet a b = (λ e. subst (λ t. When t (Meet a b) (Apart a b)) e (meets-c
 pub not-meet : (a b : ℕ) → meets a b ≡ false → Apart a b
 not-meet a b e = subst (λ t. When t (Meet a b) (Apart a b)) e (meets-cases a b)
 
-pub apart-meets : (a b : ℕ) → Apart a b → meets a b ≡ false
-apart-meets a b h = elim (cases-bool (meets a b)) [ inl e ↦ (let m = decides-meet a b .0 e in absurd (h (m .at) (m .one) (m .other))) | inr e ↦ e ]
-
 pub meet-more : (m a b : ℕ) → Subset a b → Meet m a → Meet m b
 meet-more m a b s h = record { at = h .at; one = h .one; other = s (h .at) (h .other) }
 

@@ -74,8 +74,3 @@ count s = length (members s limit)
 -- i is the least member of s
 abbrev pub First : ℕ → ℕ → Type 0
 First s i = Has s i × ((j : ℕ) → j < i → has s j ≡ false)
-
--- A loop over the members of s, of which rest are still to come: P holds of each that has come.
-pub record Visited (P : ℕ → Type 0) (s rest : ℕ) : Type 0 where
-  pub from : Subset rest s
-  pub seen : (i : ℕ) → Has s i → has rest i ≡ false → P i

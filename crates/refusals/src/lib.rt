@@ -81,8 +81,8 @@ pub enum Failure {
 pub impl fmt::Display for Failure as FailureDisplay {
     fn fmt<W: fmt::Write>(&self, f: &mut fmt::Formatter<W>) -> fmt::Result {
         match self {
-            Failure::Refused(refusal) => write!(f, "refused: {refusal}"),
-            Failure::OutOfMemory => f.write_str("out of memory"),
+            Self::Refused(reason) => write!(f, "refused: {reason}"),
+            Self::OutOfMemory => f.write_str("out of memory"),
         }
     }
 }

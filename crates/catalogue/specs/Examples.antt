@@ -4,7 +4,7 @@ use mathlib.Core.List.{[], _∷_}
 use Prim.Native.Nat.{ℕ}
 use lib.ListN.{length}
 use Rattle.sets.specs.Sets.{count}
-use Rattle.sheets.specs.Examples.{set, needs}
+use Rattle.sheets.specs.Examples.{setOf, needOf}
 use Rattle.sheets.specs.Health.{clear}
 use Rattle.sheets.specs.Sheets.{conflictsOf}
 use Rattle.sheets.specs.Support.{free}
@@ -14,12 +14,12 @@ use Rattle.catalogue.specs.declared.records.ComponentRecord.{ComponentRecord}
 
 -- the record of a component that clashes with these
 abbrev pub clashing : ℕ → ComponentRecord
-clashing s = record { clashes = set s }
+clashing s = record { clashes = setOf s }
 
 -- 0 map, 1 timeline, 2 font, 3 font-lite, 4 loop, 5 player, 6 codec-a, 7 codec-b
 abbrev pub eight : Draft
 eight = record {
-  clauses = needs 0 0b10 ∷ needs 0 0b1100 ∷ needs 1 0b1 ∷ needs 4 0b100000 ∷ needs 5 0b11000000 ∷ [];
+  clauses = needOf 0 0b10 ∷ needOf 0 0b1100 ∷ needOf 1 0b1 ∷ needOf 4 0b100000 ∷ needOf 5 0b11000000 ∷ [];
   records = noRecord ∷ noRecord ∷ noRecord ∷ noRecord ∷ clashing 0b10 ∷ noRecord ∷ clashing 0b10000000 ∷ noRecord ∷ [];
 }
 

@@ -14,7 +14,7 @@ use Rattle.refusals.specs.declared.Refusal.{Refusal}
 use Rattle.sets.specs.Limit.{limit}
 use Rattle.sets.specs.declared.ComponentSet.{ComponentSet}
 use Rattle.sheets.specs.Changes.{Goes}
-use Rattle.sheets.specs.Examples.{set}
+use Rattle.sheets.specs.Examples.{setOf}
 use Rattle.catalogue.specs.Drafts.{Draft, componentMade, needMade}
 use Rattle.catalogue.specs.Notes.{noRecord}
 use Rattle.catalogue.specs.declared.records.ComponentRecord.{ComponentRecord}
@@ -29,8 +29,8 @@ obeyed {U} f d n x y same gives u v g = go (f d) (ap f same ∙ gives) g
     go (Err z) h g = let e : _≡_ {A = ℕ} 0 1 = cc in absurd (omega arith)
 
 -- the same of a need whose members have these binary digits
-pub need-obeyed : (p k : ℕ) (s : ComponentSet) (d n x y : Draft) → s .bits ≡ k → d ≡ x → needMade x p (set k) ≡ Ok y → (v : Unit {0}) → Goes (needMade d p s) tt (Ok v) d n → n ≡ y
-need-obeyed p k s d n x y e same gives v g = obeyed (λ c. needMade c p s) d n x y same (ap (λ b. needMade x p (set b)) e ∙ gives) tt v g
+pub need-obeyed : (p k : ℕ) (s : ComponentSet) (d n x y : Draft) → s .bits ≡ k → d ≡ x → needMade x p (setOf k) ≡ Ok y → (v : Unit {0}) → Goes (needMade d p s) tt (Ok v) d n → n ≡ y
+need-obeyed p k s d n x y e same gives v g = obeyed (λ c. needMade c p s) d n x y same (ap (λ b. needMade x p (setOf b)) e ∙ gives) tt v g
 
 pub one-more : (k : ℕ) → k < limit → componentMade (unrelated k) ≡ Ok (unrelated (k + 1))
 one-more k lt =

@@ -10,20 +10,20 @@ use Rattle.sheets.specs.Changes.{blank}
 use Rattle.sheets.specs.declared.clause.Clause.{Clause}
 
 -- the set with these binary digits
-abbrev pub set : ℕ → ComponentSet
-set n = record { bits = n }
+abbrev pub setOf : ℕ → ComponentSet
+setOf n = record { bits = n }
 
 -- p needs one of d
-abbrev pub needs : ℕ → ℕ → Clause
-needs p d = record { owner = p; members = set d }
+abbrev pub needOf : ℕ → ℕ → Clause
+needOf p d = record { owner = p; members = setOf d }
 
 -- 0 needs {1}, 1 needs {0}, and nothing conflicts
 abbrev pub ring : SheetModel
-ring = record { size = 2; present = 0b11; clauses = needs 0 0b10 ∷ needs 1 0b01 ∷ []; conflicts = set 0 ∷ set 0 ∷ [] }
+ring = record { size = 2; present = 0b11; clauses = needOf 0 0b10 ∷ needOf 1 0b01 ∷ []; conflicts = setOf 0 ∷ setOf 0 ∷ [] }
 
 -- the same ring, and 1 conflicts with 2
 abbrev pub opposedRing : SheetModel
-opposedRing = record { size = 3; present = 0b111; clauses = needs 0 0b010 ∷ needs 1 0b001 ∷ []; conflicts = set 0 ∷ set 0b100 ∷ set 0b010 ∷ [] }
+opposedRing = record { size = 3; present = 0b111; clauses = needOf 0 0b010 ∷ needOf 1 0b001 ∷ []; conflicts = setOf 0 ∷ setOf 0b100 ∷ setOf 0b010 ∷ [] }
 
 pub record Examples : Type 0 where
   pub blank-free : free blank ≡ 0

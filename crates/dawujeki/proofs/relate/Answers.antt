@@ -2,7 +2,7 @@ use mathlib.Core.Path.{_≡_, refl}
 use mathlib.Core.List.{List, [], _∷_, _++_}
 use lib.ListN.{replicate}
 use Rattle.sets.specs.Sets.{has, within, withMember, below}
-use Rattle.sheets.specs.Examples.{needs}
+use Rattle.sheets.specs.Examples.{needOf}
 use Rattle.sheets.specs.declared.clause.Clause.{Clause}
 use Rattle.catalogue.specs.Drafts.{Draft, draft, clashMade}
 use Rattle.catalogue.specs.Examples.{eight, clashing}
@@ -30,10 +30,10 @@ returns c =
     let d5 = draft (c .add-need-5 .last .self) in
     let d6 = draft (c .add-clash .last .self) in
     let d7 = draft (c .add-clash-2 .last .self) in
-    let x1 = with-needs (needs 0 0b10 ∷ []) in
-    let x2 = with-needs (needs 0 0b10 ∷ needs 0 0b1100 ∷ []) in
-    let x3 = with-needs (needs 0 0b10 ∷ needs 0 0b1100 ∷ needs 1 0b1 ∷ []) in
-    let x4 = with-needs (needs 0 0b10 ∷ needs 0 0b1100 ∷ needs 1 0b1 ∷ needs 4 0b100000 ∷ []) in
+    let x1 = with-needs (needOf 0 0b10 ∷ []) in
+    let x2 = with-needs (needOf 0 0b10 ∷ needOf 0 0b1100 ∷ []) in
+    let x3 = with-needs (needOf 0 0b10 ∷ needOf 0 0b1100 ∷ needOf 1 0b1 ∷ []) in
+    let x4 = with-needs (needOf 0 0b10 ∷ needOf 0 0b1100 ∷ needOf 1 0b1 ∷ needOf 4 0b100000 ∷ []) in
     let x5 = with-needs (eight .clauses) in
     let e1 : d1 ≡ x1 = need-obeyed 0 0b10 (c .either .result) d0 d1 (unrelated 8) x1 (c .either .ensures) (c .pre) refl tt (c .in-Continue-add-need .ensures tt) in
     let e2 : d2 ≡ x2 = need-obeyed 0 0b1100 (c .either-2 .result) d1 d2 x1 x2 (c .either-2 .ensures) e1 refl tt (c .in-Continue-add-need-2 .ensures tt) in

@@ -1,11 +1,9 @@
-//! Runs the calls of the lower crates on small cases and at their limits, and prints what they answer.
+//! Runs the calls of sets, sheets and catalogues on small cases and at their limits, and prints what they answer.
 use catalogue::ClosedCatalogue;
 use catalogue::OpenCatalogue;
 use catalogue::closed::ClosedCatalogueGround;
 use catalogue::closed::ClosedCatalogueLevel;
 use levels::Level;
-use levels::Pile;
-use levels::Reduction;
 use refusals::Failure;
 use refusals::FailureError;
 use refusals::FailureFromAllocError;
@@ -20,76 +18,9 @@ use sets::ComponentSetBitOr;
 use sets::ComponentSetDebug;
 use sets::ComponentSetSub;
 use sheets::Sheet;
-use std::alloc::AllocError;
 use std::alloc::Global;
 use std::error::AnyError;
 use std::io;
-ghost use mathlib.Core.Path.{_≡_};
-ghost use Rattle.sheets.specs.Sheets.{model};
-ghost use Rattle.levels.specs.Piles.{raised, unchanged};
-ghost use Rattle.trials.specs.Unreduced.{unreducedRules};
-
-/// The smallest reduction there can be: it reduces nothing. It shows that the interface can be met, and by how little.
-#[derive(Drop)]
-struct Unreduced<L: Level> {
-    below: L,
-    sheet: Sheet,
-}
-
-impl<L: Level> Level for Unreduced<L> as UnreducedLevel {
-    ghost pile = { λ x. raised (L·Level .pile (x .below)) unreducedRules (unchanged (model (x .sheet))) };
-
-    fn sheet(&self) -> &Sheet {
-        &self.sheet
-    }
-
-    fn ground(&self) -> &Sheet {
-        self.below.ground()
-    }
-
-    fn image_of(&self, component: usize) -> usize {
-        self.below.image_of(component)
-    }
-
-    fn lift_of(&self, set: ComponentSet) -> ComponentSet {
-        self.below.lift_of(set)
-    }
-}
-
-impl<L: Level> Reduction for Unreduced<L> as UnreducedReduction {
-    type Below = L;
-
-    ghost under = { λ x. x .below };
-
-    ghost rules = { unreducedRules };
-
-    ghost keeps = { λ b o. o ≡ unchanged b };
-
-    fn over(below: L, heap: Global) -> Result<Unreduced<L>, (L, AllocError)> {
-        match below.sheet().copy(heap) {
-            Ok(sheet) => Ok(Unreduced { below, sheet }),
-            Err(error) => Err((below, error)),
-        }
-    }
-
-    fn below(&self) -> &L {
-        &self.below
-    }
-
-    fn into_below(self) -> L {
-        let Unreduced { below, sheet } = self;
-        drop(sheet);
-        below
-    }
-
-    fn step(&mut self, u: usize, v: usize) -> Result<(), Refusal> {
-        Err(Refusal::NoClause)
-    }
-
-    fn sweep(&mut self) -> Result<(), Refusal> {
-        Ok(())
-    }
-}
 
 fn pair(one: usize, other: usize) -> ComponentSet {
     ComponentSet::empty().with(one).with(other)
@@ -204,62 +135,11 @@ fn print_refusals(rt: &LibcRuntime) -> Result<(), AnyError> {
     Ok(())
 }
 
-/// The look-ups of any level.
-fn print_level<L: Level>(rt: &LibcRuntime, level: &L) -> io::Result<()> {
-    println!(
-        rt,
-        "size {} present {:?} clauses {}",
-        level.size(),
-        level.present(),
-        level.clause_count()
-    )?;
-    println!(rt, "owner {:?} {:?}", level.owner(1), level.owner(2))?;
-    println!(rt, "members {:?} {:?}", level.members(1), level.members(2))?;
-    println!(
-        rt,
-        "conflicts {:?} {:?}",
-        level.conflicts(2),
-        level.conflicts(3)
-    )?;
-    println!(rt, "image {:?} {:?}", level.image(2), level.image(3))?;
-    println!(
-        rt,
-        "lift {:?} {:?}",
-        level.lift(pair(0, 2)),
-        level.lift(pair(0, 3))
-    )
-}
-
-type One = Unreduced<ClosedCatalogue>;
-
-/// A ground with two reductions on it: look-ups at each level, a step and a sweep.
-fn print_pile(rt: &LibcRuntime) -> Result<(), AnyError> {
-    let ground = Pile::on(ring(rt.alloc(), 3)?);
-    print_level(rt, ground.top())?;
-    let Ok(one) = Pile::<One>::raise(ground, rt.alloc()) else {
-        return Err("out of memory".into());
-    };
-    let Ok(mut two) = Pile::<Unreduced<One>>::raise(one, rt.alloc()) else {
-        return Err("out of memory".into());
-    };
-    println!(rt, "step {:?} sweep {:?}", two.step(0, 0), two.sweep())?;
-    print_level(rt, two.top())?;
-    println!(rt, "below {}", two.top().below().clause_count())?;
-    let size = two.kernel_size();
-    println!(
-        rt,
-        "kernel {} {} {}",
-        size.ground, size.components, size.clauses
-    )?;
-    Ok(())
-}
-
 fn run(rt: &LibcRuntime) -> Result<(), AnyError> {
     print_sets(rt)?;
     print_health(rt, ring(rt.alloc(), 2)?.sheet())?;
     print_health(rt, ring(rt.alloc(), 3)?.sheet())?;
     print_refusals(rt)?;
-    print_pile(rt)?;
     println!(
         rt,
         "{} {}",

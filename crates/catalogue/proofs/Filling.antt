@@ -23,13 +23,12 @@ use Rattle.sets.proofs.Membership.{has-or, has-single, has-empty, has-with, has
 use Rattle.sets.proofs.Order.{decides-sub, sub-none, sub-or-left}
 use Rattle.refusals.specs.declared.Refusal.{Refusal}
 use Rattle.refusals.specs.declared.Refusal.the-variants.{TableFull, NoComponent}
-use Rattle.sheets.specs.Clauses.{row}
 use Rattle.sheets.specs.Changes.{Goes, blank, grown, withClauses, clauseAdded}
 use Rattle.sheets.specs.Limits.{maxClauses}
 use Rattle.sheets.specs.Sheets.{SheetModel, model}
 use Rattle.sheets.specs.declared.clause.Clause.{Clause}
 use Rattle.sheets.specs.declared.sheet.Sheet.{Sheet}
-use Rattle.sheets.proofs.Forms.{within-more, row-grown}
+use Rattle.sheets.proofs.Forms.{within-more, blank-rows, row-grown}
 use Rattle.catalogue.specs.Drafts.{Draft, isMade, needMade}
 use Rattle.catalogue.specs.Notes.{noRecord, noted, Known, Foreign, Unopposed, Filled}
 use Rattle.catalogue.specs.declared.opened.OpenCatalogue.{OpenCatalogue}
@@ -51,10 +50,6 @@ sealed s rs f room = (rs .ok .0 ∙ f .counted, (f .whole, (room, (f .unopposed,
 
 -- ---- no component yet
 
-blank-row : (i : ℕ) → row [] i ≡ 0
-blank-row zero = refl
-blank-row (suc i) = refl
-
 blank-noted : (p : ℕ) → noted [] p ≡ 0
 blank-noted zero = refl
 blank-noted (suc p) = refl
@@ -67,7 +62,7 @@ unfolding below
 filled-blank = record {
   counted = refl;
   whole = refl;
-  unopposed = blank-row;
+  unopposed = blank-rows;
   known = λ p. none-known 0 (noted [] p) (blank-noted p);
   foreign = λ p. ap (λ s. has s p) (blank-noted p) ∙ has-empty p;
 }

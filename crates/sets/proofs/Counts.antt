@@ -2,10 +2,10 @@
 use mathlib.Core.Path.{_≡_, refl, sym, ap, ap₂, _∙_}
 use mathlib.Core.Bool.{Bool, true, false, cond, not, _&&_, and-true, and-false}
 use mathlib.Core.Logic.{_⊎_, inl, inr}
-use Prim.Native.Nat.{ℕ, zero, suc, _+_, _-_, _*_, _/_, _%_, _^_, _≤_, _<_}
+use Prim.Native.Nat.{ℕ, zero, suc, _+_, _-_, _*_, _/_, _%_, _^_, _<_}
 use native.Mathlib.Omega.{arith}
 use mathlib.Core.List.{[], _∷_, _++_}
-use native.Mathlib.Nat.{pow-suc, mod-lt, zero-lt-suc, one-mul, add-zero, add-comm, mod-eq-of-lt, mod-one}
+use native.Mathlib.Nat.{pow-suc, mod-lt, one-mul, add-zero, add-comm, mod-eq-of-lt, mod-one}
 use native.Mathlib.Numerals.{one-add}
 use lib.Dec.{eqb}
 use lib.Arith.{bin-ind}
@@ -13,15 +13,12 @@ use lib.Pow.{pow-pos, mod-pow-add}
 use lib.Bits.{bitAnd, bitOr, and-shr, and-mod, or-shr, or-mod, or-disjoint, or-add-and, and-comm}
 use lib.Count.{ones, onesIn, ones-step, ones-cat, trailingZeros, under}
 use lib.ListN.{length, length-append}
-use Rattle.std.proofs.shelf.Tests.{eqb-true, eq-eqb, ne-eqb, cases-eq, cond-both}
+use Rattle.std.proofs.shelf.Tests.{eqb-true, eq-eqb, ne-eqb, cases-eq}
 use Rattle.std.proofs.shelf.Ways.{tells}
 use Rattle.sets.specs.Limit.{limit}
 use Rattle.sets.specs.Sets.{has, Subset, First, minus, members, count, within}
-use Rattle.sets.proofs.Membership.{has-and, has-minus, has-single, has-low, has-half, no-members, same-members, minus-split, sets}
+use Rattle.sets.proofs.Membership.{two-pos, has-and, has-minus, has-single, has-low, has-half, no-members, same-members, minus-split, sets}
 use Rattle.sets.proofs.Order.{decides-sub, some-member}
-
-two-pos : 0 < 2
-two-pos = zero-lt-suc 1
 
 -- what two sets share is counted twice
 pub ones-or-and : (a b : ℕ) → ones (bitOr a b) + ones (bitAnd a b) ≡ ones a + ones b
@@ -137,20 +134,6 @@ ones-members a (suc k) =
 
 pub length-members : (k a : ℕ) → a < 2 ^ k → length (members a k) ≡ ones a
 length-members k a h = sym (ones-members a k) ∙ ap ones (mod-eq-of-lt h)
-
-pub members-few : (a k : ℕ) → length (members a k) ≤ k
-unfolding members
-members-few a zero = omega arith
-members-few a (suc k) =
-    omega (
-      arith,
-      length-append (members a k) (cond (has a k) (k ∷ []) []),
-      members-few a k,
-      cond-both (has a k) (k ∷ []) [] (λ xs. length xs ≤ 1) (λ _. omega arith) (λ _. omega arith),
-    )
-
-pub ones-few : (k a : ℕ) → a < 2 ^ k → ones a ≤ k
-ones-few k a h = omega (arith, length-members k a h, members-few a k)
 
 -- what `count_ones` gives
 pub count-ones : (a : ℕ) → a < 2 ^ limit → ones a ≡ count a

@@ -15,7 +15,7 @@ use Rattle.std.proofs.shelf.Ways.{tells}
 use Rattle.sets.specs.Limit.{limit}
 use Rattle.sets.specs.Sets.{has, minus, collect, withMember, below}
 
-two-pos : 0 < 2
+pub two-pos : 0 < 2
 two-pos = zero-lt-suc 1
 
 -- two tests on binary digits that agree at the four pairs of digits

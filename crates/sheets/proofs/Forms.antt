@@ -73,7 +73,7 @@ within-more a b c s h = decides-sub a c .1 (λ i p. s i (decides-sub a b .0 h i 
 
 -- ---- the blank sheet
 
-blank-rows : (i : ℕ) → row [] i ≡ 0
+pub blank-rows : (i : ℕ) → row [] i ≡ 0
 blank-rows zero = refl
 blank-rows (suc i) = refl
 

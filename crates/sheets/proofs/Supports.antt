@@ -6,13 +6,13 @@ use mathlib.Core.Logic.{_⊎_, inl, inr}
 use Prim.Native.Nat.{ℕ, zero, suc, _≤_, _<_}
 use native.Mathlib.Omega.{arith}
 use lib.Bits.{bitOr}
-use lib.Count.{ones}
+use lib.Count.{ones, ones-le}
 use lib.Dec.{eqb, ltb}
 use Rattle.std.proofs.shelf.Tests.{cases-bool, cases-eq, both-ways, lt-ltb, and-left, and-right}
 use Rattle.sets.specs.Sets.{has, Has, Subset, Apart}
 use Rattle.sets.proofs.Membership.{collect-lt, has-collect, minus-split}
 use Rattle.sets.proofs.Order.{sub-refl, sub-or-both, sub-minus, in-minus, minus-in, sub-antisym}
-use Rattle.sets.proofs.Counts.{ones-grows, ones-few, ones-without}
+use Rattle.sets.proofs.Counts.{ones-grows, ones-without}
 use Rattle.sheets.specs.Sheets.{SheetModel, Formed, conflictsOf}
 use Rattle.sheets.specs.Health.{Fed, isClear, clear}
 use Rattle.sheets.specs.Support.{Supported, unmet, narrowed, rounds, support}
@@ -94,7 +94,7 @@ module _ (m : SheetModel) where
 
   support-fed : (x : ℕ) → Fed (m .clauses) (support m x) (bitOr x (support m x))
   unfolding support clear
-  support-fed x = rounds-end (m .size) (m .clauses) x (clear m) (ones-few (m .size) (clear m) (collect-lt _ (m .size)))
+  support-fed x = rounds-end (m .size) (m .clauses) x (clear m) (ones-le (m .size) (clear m) (collect-lt _ (m .size)))
 
   pub support-closed : (x : ℕ) → Supported m x (support m x)
   support-closed x = record { clears = support-clear x; closed = support-fed x }

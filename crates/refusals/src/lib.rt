@@ -1,4 +1,6 @@
 //! Why a call is declined: the refusals, each with its number and its word, and want of memory beside them.
+#![tactic(auto)]
+
 ghost use Rattle.std.specs.Prelude.{◌≡◌, Some};
 ghost use Rattle.refusals.specs.Refusals.{number_of, word_of};
 ghost use Rattle.refusals.specs.declared.Failure.TheVariants.{Refused, OutOfMemory};

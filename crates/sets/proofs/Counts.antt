@@ -1,5 +1,5 @@
 -- How many members a set has, and the list of them.
-use Rattle.std.proofs.Common.{◌≡◌, ℕ, zero, suc, ◌+◌, ◌-◌, ◌*◌, ◌/◌, ◌%◌, ◌^◌, ◌<◌, Bool, true, false, cond, not, ◌&&◌, eqb, ◌⊎◌, [], ◌∷◌, ◌++◌, length, sym, refl, ap, ◌∙◌, ap₂, inl, inr, add-zero, mod-lt, mod-eq_of_lt, add_comm, one-mul, pow-suc, one-add, arith, length-append, pow_pos}
+use Rattle.std.proofs.Common.{◌≡◌, ℕ, zero, suc, ◌+◌, ◌*◌, ◌/◌, ◌%◌, ◌^◌, ◌<◌, Bool, true, false, cond, not, ◌&&◌, eqb, ◌⊎◌, [], ◌∷◌, ◌++◌, length, sym, refl, ap, ◌∙◌, ap₂, inl, inr, add-zero, mod-lt, mod-eq_of_lt, add_comm, one-mul, pow-suc, one-add, arith, length-append, pow_pos}
 use mathlib.Core.Bool.{and-true, and-false}
 use native.Mathlib.Nat.{mod-one}
 use lib.Arith.{bin_ind}

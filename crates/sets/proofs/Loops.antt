@@ -1,5 +1,5 @@
 -- Loops: over the numbers below a limit that pass a test, and over the members of a set.
-use Rattle.std.proofs.Common.{◌≡◌, ℕ, ◌+◌, ◌-◌, ◌/◌, ◌^◌, Bool, true, false, cond, not, ◌&&◌, eqb, ◌⊎◌, sym, ap, ◌∙◌, subst, inl, inr, one-mul, zero-add, add-one, arith}
+use Rattle.std.proofs.Common.{◌≡◌, ℕ, ◌+◌, ◌/◌, ◌^◌, Bool, true, false, cond, not, ◌&&◌, eqb, ◌⊎◌, sym, ap, ◌∙◌, subst, inl, inr, one-mul, zero-add, add-one, arith}
 use lib.Bits.{bit_or, or_comm, or_shifted, and_mask, bit_and}
 use Rattle.std.proofs.lemmas.Bool.{cases_eq, both_ways, ne_eqb, and_parts}
 use Rattle.sets.specs.Sets.{has, Has, Subset, minus, collect}

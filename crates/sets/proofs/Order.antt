@@ -1,5 +1,5 @@
 -- The order of sets: subsets, sets that meet and sets that are apart, and what the tests decide.
-use Rattle.std.proofs.Common.{◌≡◌, ℕ, suc, ◌-◌, ◌%◌, ◌<◌, Bool, true, false, not, ◌&&◌, ◌||◌, eqb, ◌⊎◌, Decides, MatchBool, sym, refl, ap, ◌∙◌, subst, inl, inr, arith}
+use Rattle.std.proofs.Common.{◌≡◌, ℕ, suc, ◌%◌, ◌<◌, Bool, true, false, not, ◌&&◌, ◌||◌, eqb, ◌⊎◌, Decides, MatchBool, sym, refl, ap, ◌∙◌, subst, inl, inr, arith}
 use lib.Arith.{bin_ind}
 use lib.Bits.{bit_and, bit_or}
 use Rattle.std.proofs.lemmas.Bool.{eqb-true, eqb-false, eq-eqb, cases_Bool, both_ways, and_from, and_parts, not-true, or_left, or_right, or_cases, not_from_false}

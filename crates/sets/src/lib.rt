@@ -1,6 +1,8 @@
 //! Sets of component numbers, one machine word wide.
 //!
 //! Every call is total: a number at or past the limit is no member of any set, and adding or taking it out changes nothing.
+#![tactic(auto)]
+
 ghost use Rattle.std.specs.Prelude.{◌≡◌, ℕ, ◌-◌, ◌^◌, ◌<◌, false, not, ◌&&◌, ◌||◌, MatchBool, MatchOption, ◌==◌, bit_and, bit_or, count_ones, nat_lt};
 ghost use Rattle.sets.specs.Limit.{limit};
 ghost use Rattle.sets.specs.Sets.{has, minus, within, meets, with_member, below, count, First, Subset, Beyond, Meet, Apart};

@@ -11,8 +11,8 @@ pub loop-preserved : goal.loop-preserved
 loop-preserved c =
     let k = c.loop.counter in
     let d = c.loop.catalogue in
-    obeyed component_made (draft d) (draft c.add-component.new.self) (unrelated k) (unrelated (k + 1)) c.loop.invariant (one_more k (omega arith))
-    (length (vec_items d.records)) c.in-ok-add-component.field-0 c.in-ok-add-component.ensures
+    obeyed component_made (draft d) (draft c.add_component.new.self) (unrelated k) (unrelated (k + 1)) c.loop.invariant (one_more k (omega arith))
+    (length (vec_items d.records)) c.in_ok-add_component.field-0 c.in_ok-add_component.ensures
 
 pub returns : goal.returns
 returns c = let end : c.loop.counter ≡ 8 = omega arith in c.loop.invariant ∙ ap unrelated end

@@ -10,7 +10,7 @@ use Rattle.control.proofs.Calls.{unknown_call, own_call, clash_call}
 use Rattle.control.proofs.Conflicts.{none_opposed}
 use Rattle.control.proofs.Filling.{obeyed, clashes_up_to}
 use Rattle.control.proofs.resolve.add_clashes.Goals as goal
-use Rattle.control.proofs.resolve.add_clashes.Goals.{in-Some+then-other-clash, in-Some+else-other-clash, in-default}
+use Rattle.control.proofs.resolve.add_clashes.Goals.{in-Some+then-other-clash, in-Some+else-other-clash, in_default}
 
 pub loop-clash-init : goal.loop-clash-init
 loop-clash-init c =
@@ -25,7 +25,7 @@ unwrap-requires c =
     let owner = (get_or c.clashes-clash-items.result.now k (record { owner = 0; name = record { start = 0; end = 0 } })).owner in
     (obeyed (λ d. clash_made d owner c.in-Some.other) (draft c.loop-clash.catalogue) (clashes_up_to (notes_of text notes) k) (clashes_up_to (notes_of text notes) (k + 1)) _ _ _ c.loop-clash.invariant
     (clash_call text notes c.requires.0 k _ _ c.clashes-clash-items.ensures c.loop-clash-test.true _ _ _ c.names.ensures c.of.ensures c.find.ensures c.in-Some.other c.in-Some.is c.if-other-clash.true)
-    c.add-clash.ensures).0
+    c.add_clash.ensures).0
 
 pub loop-clash-preserved : goal.loop-clash-preserved
 loop-clash-preserved c =
@@ -38,15 +38,15 @@ loop-clash-preserved c =
           ap (λ (x : OpenCatalogue). draft x) w.catalogue-is
           ∙ (obeyed (λ d. clash_made d owner w.in-Some.other) (draft c.loop-clash.catalogue) (clashes_up_to (notes_of text notes) k) (clashes_up_to (notes_of text notes) (k + 1)) _ _ _ c.loop-clash.invariant
           (clash_call text notes c.requires.0 k _ _ c.clashes-clash-items.ensures c.loop-clash-test.true _ _ _ c.names.ensures c.of.ensures c.find.ensures w.in-Some.other w.in-Some.is w.if-other-clash.true)
-          w.add-clash.ensures).1
+          w.add_clash.ensures).1
       | in-Some+else-other-clash w ↦
           ap (λ (x : OpenCatalogue). draft x) w.catalogue-is
           ∙ c.loop-clash.invariant
           ∙ own_call text notes c.requires.0 k _ _ c.clashes-clash-items.ensures c.loop-clash-test.true _ _ _ c.names.ensures c.of.ensures c.find.ensures w.in-Some.other w.in-Some.is w.if-other-clash.false
-      | in-default w ↦
+      | in_default w ↦
           ap (λ (x : OpenCatalogue). draft x) w.catalogue-is
           ∙ c.loop-clash.invariant
-          ∙ unknown_call text notes c.requires.0 k _ _ c.clashes-clash-items.ensures c.loop-clash-test.true _ _ _ c.names.ensures c.of.ensures c.find.ensures w.in-default.is
+          ∙ unknown_call text notes c.requires.0 k _ _ c.clashes-clash-items.ensures c.loop-clash-test.true _ _ _ c.names.ensures c.of.ensures c.find.ensures w.in_default.is
     ]
 
 pub returns : goal.returns

@@ -8,10 +8,10 @@ use Rattle.control.specs.Grounds.{clause_of}
 use Rattle.control.proofs.Calls.{need_call}
 use Rattle.control.proofs.Filling.{obeyed, needs_up_to}
 use Rattle.control.proofs.resolve.add_needs.Goals as goal
-use Rattle.control.proofs.resolve.add_needs.Goals.{After-add-need}
+use Rattle.control.proofs.resolve.add_needs.Goals.{After-add_need}
 
 -- the call is obeyed
-added : (c : After-add-need) → (is_ok c.add-need.result ≡ true) × (draft c.add-need.new.self ≡ needs_up_to (notes_of c.args.text.now c.args.notes.now) (c.loop-need.need-index + 1))
+added : (c : After-add_need) → (is_ok c.add_need.result ≡ true) × (draft c.add_need.new.self ≡ needs_up_to (notes_of c.args.text.now c.args.notes.now) (c.loop-need.need-index + 1))
 added c =
     let text = c.args.text.now in
     let notes = c.args.notes.now in
@@ -19,14 +19,14 @@ added c =
     let x = c.need-item.result in
     let members = c.members-members.result in
     obeyed (λ d. need_made d x.owner members) (draft c.loop-need.catalogue) (needs_up_to (notes_of text notes) k) (needs_up_to (notes_of text notes) (k + 1)) _ _ _ c.loop-need.invariant
-    (need_call text notes c.requires.0 k _ x c.needs-need-items.ensures c.loop-need-test.true c.need-item.is _ _ members c.names.ensures c.as-slice.ensures.value c.members-members.ensures)
-    c.add-need.ensures
+    (need_call text notes c.requires.0 k _ x c.needs-need-items.ensures c.loop-need-test.true c.need-item.is _ _ members c.names.ensures c.as_slice.ensures.value c.members-members.ensures)
+    c.add_need.ensures
 
 pub unwrap-requires : goal.unwrap-requires
 unwrap-requires c = (added c).0
 
 pub loop-need-preserved : goal.loop-need-preserved
-loop-need-preserved c = (added (goal.at.loop-need-preserved c).After-add-need).1
+loop-need-preserved c = (added (goal.at.loop-need-preserved c).After-add_need).1
 
 pub returns : goal.returns
 returns c =

@@ -5,15 +5,15 @@ use Rattle.texts.specs.declared.spans.Span.{Span}
 use Rattle.control.specs.Grounds.{known}
 use Rattle.control.proofs.Calls.{member_found, member_unfound}
 use Rattle.control.proofs.resolve.members.Goals as goal
-use Rattle.control.proofs.resolve.members.Goals.{in-Some, in-default}
+use Rattle.control.proofs.resolve.members.Goals.{in-Some, in_default}
 
 pub loop-name-preserved : goal.loop-name-preserved
 loop-name-preserved c =
     elim c.match-find.branch [
       | in-Some w ↦ ap (λ x. x.bits) w.members-is ∙ w.with-members.ensures.value
           ∙ member_found c.args.text.now c.args.names.now c.args.choice.now c.loop-name.name-index _ c.loop-name-test.true _ c.loop-name.invariant _ c.of.ensures w.in-Some.component w.in-Some.ensures
-      | in-default w ↦ ap (λ x. x.bits) w.members-is
-          ∙ member_unfound c.args.text.now c.args.names.now c.args.choice.now c.loop-name.name-index _ c.loop-name-test.true _ c.loop-name.invariant _ c.of.ensures w.in-default.ensures
+      | in_default w ↦ ap (λ x. x.bits) w.members-is
+          ∙ member_unfound c.args.text.now c.args.names.now c.args.choice.now c.loop-name.name-index _ c.loop-name-test.true _ c.loop-name.invariant _ c.of.ensures w.in_default.ensures
     ]
 
 pub returns : goal.returns

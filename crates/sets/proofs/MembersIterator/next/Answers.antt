@@ -7,5 +7,5 @@ use Rattle.std.proofs.iter.Next.{firm}
 pub returns : goal.returns
 returns c =
     let fewer : ones c.without-self.result.bits < ones c.args.self.now.rest.bits =
-    omega (arith, ap ones c.without-self.ensures.value, ones_without c.args.self.now.rest.bits c.in-ok-component.component c.in-ok-component.ensures.1.0) in
+    omega (arith, ap ones c.without-self.ensures.value, ones_without c.args.self.now.rest.bits c.in_ok-component.component c.in_ok-component.ensures.1.0) in
     record { steps = search rules; goes = firm ((tt, tt, fewer)) (λ h. search rules) }

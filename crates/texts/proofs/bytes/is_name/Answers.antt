@@ -5,13 +5,13 @@ use Rattle.texts.specs.Bytes.{every, in_name}
 use Rattle.texts.proofs.Rules.{every_more, every_stops, good_all}
 use Rattle.texts.proofs.bytes.is_name.Goals as goal
 
-pub returns-then-not-is-name-byte : goal.returns-then-not-is-name-byte
-returns-then-not-is-name-byte c =
-    sym (and_right _ _ (sym c.loop-byte.invariant ∙ every_stops in_name c.args.bytes.now c.loop-byte.byte-index c.loop-byte-test.true (sym c.if-not-is-name-byte.ensures)))
+pub returns-then-not-is_name_byte : goal.returns-then-not-is_name_byte
+returns-then-not-is_name_byte c =
+    sym (and_right _ _ (sym c.loop-byte.invariant ∙ every_stops in_name c.args.bytes.now c.loop-byte.byte-index c.loop-byte-test.true (sym c.if-not-is_name_byte.ensures)))
 
 pub loop-byte-preserved : goal.loop-byte-preserved
-loop-byte-preserved c = sym (every_more in_name c.args.bytes.now c.loop-byte.byte-index c.loop-byte-test.true (sym c.if-not-is-name-byte.ensures)) ∙ c.loop-byte.invariant
+loop-byte-preserved c = sym (every_more in_name c.args.bytes.now c.loop-byte.byte-index c.loop-byte-test.true (sym c.if-not-is_name_byte.ensures)) ∙ c.loop-byte.invariant
 
 pub returns : goal.returns
 returns c =
-    sym (good_all c.args.bytes.now (omega arith) (omega arith) (sym c.if-not-is-start.ensures) (sym c.loop-byte.invariant ∙ at_drop_all (every in_name) c.args.bytes.now c.loop-byte.byte-index c.loop-byte-test.false))
+    sym (good_all c.args.bytes.now (omega arith) (omega arith) (sym c.if-not-is_start.ensures) (sym c.loop-byte.invariant ∙ at_drop_all (every in_name) c.args.bytes.now c.loop-byte.byte-index c.loop-byte-test.false))

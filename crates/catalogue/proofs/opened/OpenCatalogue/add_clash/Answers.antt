@@ -7,13 +7,13 @@ use Rattle.catalogue.specs.Notes.{noted, no_record}
 use Rattle.catalogue.proofs.Filling.{filled, filled_clash, sealed}
 use Rattle.catalogue.proofs.opened.OpenCatalogue.add_clash.Goals as goal
 
-pub invariant-of-self : goal.invariant-of-self
-invariant-of-self c =
+pub invariant_of-self : goal.invariant_of-self
+invariant_of-self c =
     let o = c.args.self.now in
     let p = c.args.component in
     let q = c.args.other in
     let lp : p < length (vec_items o.records) = omega (arith, c.len.ensures, o.records.ok.0) in
     let lq : q < length (vec_items o.records) = omega (arith, c.len-else-component-len.ensures, o.records.ok.0) in
     let is : c.note.new.self.clashes.bits ≡ with_member (noted (vec_items o.records) p) q =
-    c.note.ensures ∙ ap (λ x. with_member x.clashes.bits q) (get_or_read (vec_items o.records) p c.index-mut-record.result.now lp c.index-mut-record.ensures.value no_record) in
+    c.note.ensures ∙ ap (λ x. with_member x.clashes.bits q) (get_or_read (vec_items o.records) p c.index_mut-record.result.now lp c.index_mut-record.ensures.value no_record) in
     sealed o.sheet (with_item o.records p c.note.new.self) (filled_clash (model o.sheet) (vec_items o.records) p q c.note.new.self lp lq c.if-component-other.false o.sheet.small is (filled o)) o.room

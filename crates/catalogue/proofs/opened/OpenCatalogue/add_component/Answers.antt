@@ -7,14 +7,14 @@ use Rattle.catalogue.specs.declared.records.ComponentRecord.{ComponentRecord}
 use Rattle.catalogue.proofs.Filling.{filled, filled_grown, sealed}
 use Rattle.catalogue.proofs.opened.OpenCatalogue.add_component.Goals as goal
 
-pub invariant-of-self-2 : goal.invariant-of-self-2
-invariant-of-self-2 c =
+pub invariant_of-self-2 : goal.invariant_of-self-2
+invariant_of-self-2 c =
     let o = c.args.self.now in
-    let s = c.add-component.new.self in
-    let rs = c.push-reserved.new.self in
+    let s = c.add_component.new.self in
+    let rs = c.push_reserved.new.self in
     let lt : (model o.sheet).size < limit = search rules in
     let is : model s ≡ grown (model o.sheet) = search rules in
     let room : limit ≤ vec_capacity rs = search rules in
     sealed s rs
     (subst (λ (m : SheetModel). Filled m (vec_items rs)) (sym is)
-    (subst (λ (xs : List ComponentRecord). Filled (grown (model o.sheet)) xs) (sym c.push-reserved.ensures.items) (filled_grown (model o.sheet) (vec_items o.records) c.new.result c.new.ensures lt (filled o)))) room
+    (subst (λ (xs : List ComponentRecord). Filled (grown (model o.sheet)) xs) (sym c.push_reserved.ensures.items) (filled_grown (model o.sheet) (vec_items o.records) c.new.result c.new.ensures lt (filled o)))) room

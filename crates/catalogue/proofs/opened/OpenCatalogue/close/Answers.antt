@@ -8,12 +8,12 @@ use Rattle.catalogue.proofs.Filling.{filled}
 use Rattle.catalogue.proofs.opened.OpenCatalogue.close.Goals as goal
 
 pub complete-requires : goal.complete-requires
-complete-requires c = subst (λ (rs : List ComponentRecord). Filled (model c.args.self.sheet) rs) (sym c.as-slice.ensures.value) (filled c.args.self)
+complete-requires c = subst (λ (rs : List ComponentRecord). Filled (model c.args.self.sheet) rs) (sym c.as_slice.ensures.value) (filled c.args.self)
 
 pub returns : goal.returns
 returns c =
     let cs = (model c.args.self.sheet).clauses in
-    let same = c.as-slice.ensures.value in
+    let same = c.as_slice.ensures.value in
     record {
       sheet = c.complete.ensures.sheet ∙ ap (λ (rs : List ComponentRecord). closed (record { clauses = cs; records = rs })) same;
       both = λ p q. c.complete.ensures.both p q ∙ ap (λ (rs : List ComponentRecord). clash (record { clauses = cs; records = rs }) p q) same;

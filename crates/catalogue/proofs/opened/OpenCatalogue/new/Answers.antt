@@ -7,10 +7,10 @@ use Rattle.catalogue.specs.declared.records.ComponentRecord.{ComponentRecord}
 use Rattle.catalogue.proofs.Filling.{filled_blank, sealed}
 use Rattle.catalogue.proofs.opened.OpenCatalogue.new.Goals as goal
 
-pub invariant-of-result : goal.invariant-of-result
-invariant-of-result c =
-    let s = c.in-ok-sheet.sheet in
-    let rs = c.in-ok-records.records in
+pub invariant_of-result : goal.invariant_of-result
+invariant_of-result c =
+    let s = c.in_ok-sheet.sheet in
+    let rs = c.in_ok-records.records in
     let room : limit ≤ vec_capacity rs = search rules in
     sealed s rs
-    (subst (λ (m : SheetModel). Filled m (vec_items rs)) (sym c.in-ok-sheet.ensures) (subst (λ (xs : List ComponentRecord). Filled blank xs) (sym c.in-ok-records.ensures.items) filled_blank)) room
+    (subst (λ (m : SheetModel). Filled m (vec_items rs)) (sym c.in_ok-sheet.ensures) (subst (λ (xs : List ComponentRecord). Filled blank xs) (sym c.in_ok-records.ensures.items) filled_blank)) room

@@ -16,8 +16,8 @@ loop-component-preserved c =
     let k = c.loop-component.component in
     let s = c.loop-component.sheet in
     let is : c.clashes.result.bits ≡ noted rs k = ap (λ x. x.bits) c.clashes.ensures in
-    closing_more (model e) rs c.requires (formed e) (model s) k c.loop-component.invariant (formed s) c.loop-component-test.true c.add-conflicts.result (model c.add-conflicts.new.self)
-    (subst (λ (qs : ℕ). Goes (conflicts_added (model s) k qs) tt c.add-conflicts.result (model s) (model c.add-conflicts.new.self)) is c.add-conflicts.ensures.goes)
+    closing_more (model e) rs c.requires (formed e) (model s) k c.loop-component.invariant (formed s) c.loop-component-test.true c.add_conflicts.result (model c.add_conflicts.new.self)
+    (subst (λ (qs : ℕ). Goes (conflicts_added (model s) k qs) tt c.add_conflicts.result (model s) (model c.add_conflicts.new.self)) is c.add_conflicts.ensures.goes)
 
 pub returns : goal.returns
 returns c =

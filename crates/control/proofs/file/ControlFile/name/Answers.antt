@@ -11,13 +11,13 @@ returns-in-Some c =
     let i = c.args.component in
     let s = c.in-Some.span.now in
     let found = c.in-Some.ensures.lookup in
-    let lt = subst (λ (xs : List Span). i < length xs) c.as-slice.ensures.value found.3.0 in
-    let is = subst (λ (xs : List Span). s ≡ get_or xs i s) c.as-slice.ensures.value found.1 in
+    let lt = subst (λ (xs : List Span). i < length xs) c.as_slice.ensures.value found.3.0 in
+    let is = subst (λ (xs : List Span). s ≡ get_or xs i s) c.as_slice.ensures.value found.1 in
     name_there (vec_items f.text) (vec_items f.names) (model f.catalogue.sheet) i s lt is
-    ∙ sym (ap Ok (c.of.ensures ∙ ap (λ (t : List ℕ). stretch t s) c.as-slice-in-Some.ensures.value))
+    ∙ sym (ap Ok (c.of.ensures ∙ ap (λ (t : List ℕ). stretch t s) c.as_slice-in-Some.ensures.value))
 
 pub returns-in-None : goal.returns-in-None
 returns-in-None c =
     let f = c.args.self.now in
     let i = c.args.component in
-    name_missing (vec_items f.text) (vec_items f.names) (model f.catalogue.sheet) i (subst (λ (xs : List Span). length xs ≤ i) c.as-slice.ensures.value c.in-None.ensures.lookup.3)
+    name_missing (vec_items f.text) (vec_items f.names) (model f.catalogue.sheet) i (subst (λ (xs : List Span). length xs ≤ i) c.as_slice.ensures.value c.in-None.ensures.lookup.3)

@@ -7,13 +7,13 @@ use Rattle.sheets.specs.declared.clause.Clause.{Clause}
 use Rattle.sheets.proofs.Forms.{formed, sealed, clause_formed}
 use Rattle.sheets.proofs.sheet.Sheet.add_clause.Goals as goal
 
-pub invariant-of-self : goal.invariant-of-self
-invariant-of-self c =
+pub invariant_of-self : goal.invariant_of-self
+invariant_of-self c =
     let s = c.args.self.now in
     let m = model s in
     let o : Has m.present c.args.clause.owner = search rules in
     let d : within c.args.clause.members.bits m.present ≡ true = search rules in
     let lt : length m.clauses < max_clauses = search rules in
     let w = clause_formed m c.args.clause (formed s) o d lt in
-    let room : max_clauses ≤ vec_capacity c.push-reserved.new.self = search rules in
-    sealed s.size s.present.bits c.push-reserved.new.self s.conflicts (subst (λ (cs : List Clause). Formed (with_clauses m cs)) (sym c.push-reserved.ensures.items) w) s.row_room room
+    let room : max_clauses ≤ vec_capacity c.push_reserved.new.self = search rules in
+    sealed s.size s.present.bits c.push_reserved.new.self s.conflicts (subst (λ (cs : List Clause). Formed (with_clauses m cs)) (sym c.push_reserved.ensures.items) w) s.row_room room

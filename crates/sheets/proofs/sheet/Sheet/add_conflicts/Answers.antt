@@ -9,8 +9,8 @@ use Rattle.sheets.specs.Changes.{opposed, with_conflicts}
 use Rattle.sheets.proofs.Forms.{formed, sealed, opposed_formed, opposed_both, refilled_opposed}
 use Rattle.sheets.proofs.sheet.Sheet.add_conflicts.Goals as goal
 
-pub invariant-of-self : goal.invariant-of-self
-invariant-of-self c =
+pub invariant_of-self : goal.invariant_of-self
+invariant_of-self c =
     let s = c.args.self.now in
     let m = model s in
     let p = c.args.component in
@@ -18,7 +18,7 @@ invariant-of-self c =
     let h : Has m.present p = search rules in
     let q : within qs m.present ≡ true = search rules in
     let n : has qs p ≡ false = search rules in
-    let is = refilled_opposed s.conflicts c.oppose.new.table p qs (c.oppose.ensures ∙ ap (λ (t : List ComponentSet). opposed t p qs) c.as-mut-slice.ensures.value) in
+    let is = refilled_opposed s.conflicts c.oppose.new.table p qs (c.oppose.ensures ∙ ap (λ (t : List ComponentSet). opposed t p qs) c.as_mut_slice.ensures.value) in
     sealed s.size s.present.bits s.clauses (with_items s.conflicts c.oppose.new.table) (subst (λ (t : List ComponentSet). Formed (with_conflicts m t)) (sym is) (opposed_formed m p qs (formed s) h q n)) s.row_room s.clause_room
 
 pub returns : goal.returns
@@ -30,7 +30,7 @@ returns c =
     let h : Has m.present p = search rules in
     let q : within qs m.present ≡ true = search rules in
     let n : has qs p ≡ false = search rules in
-    let is = refilled_opposed s.conflicts c.oppose.new.table p qs (c.oppose.ensures ∙ ap (λ (t : List ComponentSet). opposed t p qs) c.as-mut-slice.ensures.value) in
+    let is = refilled_opposed s.conflicts c.oppose.new.table p qs (c.oppose.ensures ∙ ap (λ (t : List ComponentSet). opposed t p qs) c.as_mut_slice.ensures.value) in
     let both = and_from (has m.present p) (within qs m.present) h q in
     record {
       goes = rw (both, n) (refl, ap (with_conflicts m) is);

@@ -11,7 +11,7 @@ pub returns : goal.returns
 unfolding clear
 returns c =
     let s = c.args.self.now in
-    let is : c.clear-of.result.bits ≡ clear (model s) =
-    c.clear-of.ensures ∙ ap (λ (t : List ComponentSet). collect (is_clear s.present.bits t) (length t)) c.as-slice.ensures.value
+    let is : c.clear_of.result.bits ≡ clear (model s) =
+    c.clear_of.ensures ∙ ap (λ (t : List ComponentSet). collect (is_clear s.present.bits t) (length t)) c.as_slice.ensures.value
     ∙ ap (λ (n : ℕ). collect (is_clear s.present.bits (vec_items s.conflicts)) n) (formed s).rows in
     record { value = is; members = λ i. ap (λ x. has x i) is ∙ has_clear (model s) (formed s) i }

@@ -9,9 +9,9 @@ use Rattle.sheets.proofs.Forms.{formed, present_below}
 use Rattle.sheets.proofs.Feeding.{fed_apart, apart_fed}
 use Rattle.sheets.proofs.sheet.Sheet.is_healthy.Goals as goal
 
-pub returns-then-not-is-subset : goal.returns-then-not-is-subset
-returns-then-not-is-subset c =
-    let b = c.if-not-is-subset.ensures.cases in
+pub returns-then-not-is_subset : goal.returns-then-not-is_subset
+returns-then-not-is_subset c =
+    let b = c.if-not-is_subset.ensures.cases in
     (λ e. absurd (false≢true e), λ h. absurd (both_ways (has c.args.self.now.present.bits b.at) b.outside (h.installation b.at b.inside)))
 
 pub returns-then-intersects : goal.returns-then-intersects
@@ -26,10 +26,10 @@ returns c =
     let s = c.args.self.now in
     let m = model s in
     let x = c.args.set.bits in
-    let inside : Subset x m.present = c.if-not-is-subset.ensures.cases in
+    let inside : Subset x m.present = c.if-not-is_subset.ensures.cases in
     let met : Apart x (unmet m.clauses x) = subst (Apart x) c.unmet.ensures c.if-intersects.ensures.cases in
-    let quiet : Decides c.is-quiet.result ((i : ℕ) → i < length m.conflicts → Has x i → Apart x (row m.conflicts i)) =
-    subst (λ (t : List ComponentSet). Decides c.is-quiet.result ((i : ℕ) → i < length t → Has x i → Apart x (row t i))) c.as-slice.ensures.value c.is-quiet.ensures in (
+    let quiet : Decides c.is_quiet.result ((i : ℕ) → i < length m.conflicts → Has x i → Apart x (row m.conflicts i)) =
+    subst (λ (t : List ComponentSet). Decides c.is_quiet.result ((i : ℕ) → i < length t → Has x i → Apart x (row t i))) c.as_slice.ensures.value c.is_quiet.ensures in (
       λ e. record {
         installation = inside;
         fed = apart_fed m.clauses x x met;

@@ -6,12 +6,12 @@ use Rattle.sheets.specs.Changes.{blank}
 use Rattle.sheets.proofs.Forms.{sealed, blank_formed}
 use Rattle.sheets.proofs.sheet.Sheet.new.Goals as goal
 
-pub invariant-of-result : goal.invariant-of-result
-invariant-of-result c =
-    let cs = c.in-ok-clauses.clauses in
-    let table = c.in-ok-conflicts.conflicts in
-    let a = c.in-ok-clauses.ensures.items in
-    let b = c.in-ok-conflicts.ensures.items in
+pub invariant_of-result : goal.invariant_of-result
+invariant_of-result c =
+    let cs = c.in_ok-clauses.clauses in
+    let table = c.in_ok-conflicts.conflicts in
+    let a = c.in_ok-clauses.ensures.items in
+    let b = c.in_ok-conflicts.ensures.items in
     let is : blank ≡ (record { size = 0; present = c.empty.result.bits; clauses = vec_items cs; conflicts = vec_items table }) = cc in
     let rows : limit ≤ vec_capacity table = search rules in
     let room : max_clauses ≤ vec_capacity cs = search rules in

@@ -8,7 +8,7 @@ use Rattle.sheets.proofs.sheet.Sheet.support.Goals as goal
 
 pub loop-set-init : goal.loop-set-init
 loop-set-init c =
-    let is = c.clear-components-supported.ensures.value in
+    let is = c.clear_components-supported.ensures.value in
     (λ i h. ap (λ s. has s i) (sym is) ∙ h, λ i h. ap (λ s. has s i) is ∙ (support_closed (model c.args.self.now) c.args.set.bits).clears i h)
 
 pub loop-set-preserved : goal.loop-set-preserved

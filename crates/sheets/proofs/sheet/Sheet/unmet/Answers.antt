@@ -5,8 +5,8 @@ use Rattle.sheets.specs.declared.clause.Clause.{Clause}
 use Rattle.sheets.proofs.Forms.{formed, owners_limit}
 use Rattle.sheets.proofs.sheet.Sheet.unmet.Goals as goal
 
-pub unmet-owners-requires : goal.unmet-owners-requires
-unmet-owners-requires c = owners_limit (model c.args.self.now) (formed c.args.self.now) c.as-slice.result.now c.as-slice.ensures.value
+pub unmet_owners-requires : goal.unmet_owners-requires
+unmet_owners-requires c = owners_limit (model c.args.self.now) (formed c.args.self.now) c.as_slice.result.now c.as_slice.ensures.value
 
 pub returns : goal.returns
-returns c = c.unmet-owners.ensures ∙ ap (λ (cs : List Clause). unmet cs c.args.set.bits) c.as-slice.ensures.value
+returns c = c.unmet_owners.ensures ∙ ap (λ (cs : List Clause). unmet cs c.args.set.bits) c.as_slice.ensures.value

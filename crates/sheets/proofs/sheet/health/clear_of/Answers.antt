@@ -7,7 +7,7 @@ use Rattle.sets.proofs.Loops.{collect_with, collect_without}
 use Rattle.sheets.specs.Clauses.{row}
 use Rattle.sheets.specs.Health.{is_clear}
 use Rattle.sheets.proofs.sheet.health.clear_of.Goals as goal
-use Rattle.sheets.proofs.sheet.health.clear_of.Goals.{then-contains+then-is-empty, else-contains, else-contains-via-then-contains+else-is-empty, else-contains-via-else-contains}
+use Rattle.sheets.proofs.sheet.health.clear_of.Goals.{then-contains+then-is_empty, else-contains, else-contains-via-then-contains+else-is_empty, else-contains-via-else-contains}
 
 pub loop-i-init : goal.loop-i-init
 unfolding collect
@@ -19,14 +19,14 @@ loop-i-preserved c =
     let p = c.args.present.bits in
     let t = c.args.table.now in
     elim c.if-contains.branch [
-      | then-contains+then-is-empty w ↦
+      | then-contains+then-is_empty w ↦
           ap (λ x. x.bits) w.clear-is ∙ w.with-clear.ensures.value ∙ sym (with_is c.loop-i.clear.bits i (omega (arith, c.requires)))
           ∙ ap (λ s. bit_or s (2 ^ i)) c.loop-i.invariant
-          ∙ sym (collect_with (is_clear p t) i (and_from (has p i) (eqb (row t i) 0) (sym w.if-contains.ensures.value) (sym w.if-is-empty.ensures)))
+          ∙ sym (collect_with (is_clear p t) i (and_from (has p i) (eqb (row t i) 0) (sym w.if-contains.ensures.value) (sym w.if-is_empty.ensures)))
       | else-contains w ↦
           ap (λ x. x.bits) w.clear-is ∙ c.loop-i.invariant
           ∙ sym (collect_without (is_clear p t) i (elim w.else-contains.branch [
-            | else-contains-via-then-contains+else-is-empty v ↦ and_right (has p i) (eqb (row t i) 0) (sym v.if-is-empty.ensures)
+            | else-contains-via-then-contains+else-is_empty v ↦ and_right (has p i) (eqb (row t i) 0) (sym v.if-is_empty.ensures)
             | else-contains-via-else-contains v ↦ and_left (has p i) (eqb (row t i) 0) (sym v.if-contains.ensures.value)
           ]))
     ]

@@ -6,4 +6,4 @@ pub returns-in-Comma : goal.returns-in-Comma
 returns-in-Comma c = comma_read c.args.relation c.args.self.now c.token.new.self _ c.in-Some.ensures _ c.in-Comma.is
 
 pub returns-in-Bar : goal.returns-in-Bar
-returns-in-Bar c = bar_read c.args.relation c.args.self.now c.token.new.self _ c.in-Some.ensures _ c.in-Bar.is (sym c.if-has-bars.ensures)
+returns-in-Bar c = bar_read c.args.relation c.args.self.now c.token.new.self _ c.in-Some.ensures _ c.in-Bar.is (sym c.if-has_bars.ensures)

@@ -4,4 +4,4 @@ use Rattle.stanzas.proofs.notes.Notes.add_clashes.Goals as goal
 
 pub returns : goal.returns
 returns c text =
-    clashes_added text c.args.self.now c.args.names.now c.saturating-sub-owner.result (omega (arith, c.args.self.now.names.ok.0)) (vec_items c.push-clashes.new.clashes) c.in-ok-push-clashes.ensures
+    clashes_added text c.args.self.now c.args.names.now c.saturating_sub-owner.result (omega (arith, c.args.self.now.names.ok.0)) (vec_items c.push_clashes.new.clashes) c.in_ok-push_clashes.ensures

@@ -9,11 +9,11 @@ use Rattle.stanzas.proofs.Sound.{reading_sound}
 use Rattle.stanzas.proofs.ValueSteps.{stops_then}
 use Rattle.stanzas.proofs.notes.Notes.read.Goals as goal
 
-pub returns-then-text-gt-MAX-BYTES : goal.returns-then-text-gt-MAX-BYTES
-returns-then-text-gt-MAX-BYTES c = record { value = too_long c.args.text.now c.if-text-gt-MAX-BYTES.true ∙ ap Err (sym c.in-file.ensures); sound = tt; plain = read_back }
+pub returns-then-text-gt-MAX_BYTES : goal.returns-then-text-gt-MAX_BYTES
+returns-then-text-gt-MAX_BYTES c = record { value = too_long c.args.text.now c.if-text-gt-MAX_BYTES.true ∙ ap Err (sym c.in_file.ensures); sound = tt; plain = read_back }
 
-pub returns-in-err-read-line : goal.returns-in-err-read-line
-returns-in-err-read-line c =
+pub returns-in_err-read_line : goal.returns-in_err-read_line
+returns-in_err-read_line c =
     let text = c.args.text.now in
     let n = notes_of text c.loop-at.notes in
     let end = c.scan-end.result in
@@ -22,7 +22,7 @@ returns-in-err-read-line c =
       value = gives_stopped text _ p.0 _ _ p.1 p.2
           (stops_then _ _ _ (λ m. stanzas m (lines false (end + 1) (drop (end + 1) text)))
           (by_lines text (omega arith) ∙ c.loop-at.invariant ∙ next_line text n c.loop-at.at end c.loop-at-test.true c.scan-end.ensures.value)
-          c.in-err-read-line.ensures);
+          c.in_err-read_line.ensures);
       sound = IfOk-from_err c.from-residual.result _ c.from-residual.ensures.0;
       plain = read_back;
     }
@@ -31,7 +31,7 @@ pub loop-at-preserved : goal.loop-at-preserved
 loop-at-preserved c =
     let text = c.args.text.now in
     c.loop-at.invariant
-    ∙ past_line text (notes_of text c.loop-at.notes) c.loop-at.at c.scan-end.result c.loop-at-test.true c.scan-end.ensures.value (notes_of text c.read-line.new.self) c.in-ok-read-line.ensures
+    ∙ past_line text (notes_of text c.loop-at.notes) c.loop-at.at c.scan-end.result c.loop-at-test.true c.scan-end.ensures.value (notes_of text c.read_line.new.self) c.in_ok-read_line.ensures
 
 pub returns : goal.returns
 returns c =

@@ -35,12 +35,32 @@ formed s = record {
 -- the invariants of the type `Sheet`, in their order, from those of its model and the room of its tables
 pub sealed : (n p : ℕ) (cs : Vec Clause Global) (table : Vec ComponentSet Global)
     → Formed (record { size = n; present = p; clauses = vec_items cs; conflicts = vec_items table }) → limit ≤ vec_capacity table → max_clauses ≤ vec_capacity cs
-    → (n ≤ limit) × ((p < 2 ^ n) × ((vec_len table ≡ n) × ((limit ≤ vec_capacity table) × ((vec_len cs ≤ max_clauses) × ((max_clauses ≤ vec_capacity cs)
-    × (Owned p (vec_items cs) × (Known p (vec_items cs) × (Among p (vec_items table) × (Mutual (vec_items table) × (Irreflexive (vec_items table) × Unit {0}))))))))))
-sealed n p cs table w r s = (
-  w.small,
-  (w.bounded, (table.ok.0 ∙ w.rows, (r, (omega (arith, w.few, cs.ok.0), (s, (w.owned, (w.known, (w.among, (w.mutuals, (w.irreflexive, tt)))))))))),
-)
+    → record {
+      small : n ≤ limit;
+      bounded : p < 2 ^ n;
+      rows : vec_len table ≡ n;
+      row_room : limit ≤ vec_capacity table;
+      few : vec_len cs ≤ max_clauses;
+      clause_room : max_clauses ≤ vec_capacity cs;
+      owned : Owned p (vec_items cs);
+      known : Known p (vec_items cs);
+      among : Among p (vec_items table);
+      «mutual» : Mutual (vec_items table);
+      irreflexive : Irreflexive (vec_items table);
+    }
+sealed n p cs table w r s = record {
+  small = w.small;
+  bounded = w.bounded;
+  rows = table.ok.0 ∙ w.rows;
+  row_room = r;
+  few = omega (arith, w.few, cs.ok.0);
+  clause_room = s;
+  owned = w.owned;
+  known = w.known;
+  among = w.among;
+  «mutual» = w.mutuals;
+  irreflexive = w.irreflexive;
+}
 
 -- what is present is below the size, and below the limit
 module _ (m : SheetModel) (w : Formed m) where

@@ -1,4 +1,6 @@
 //! Sheets: which components there are, what each needs, what it conflicts with, and which can stand together.
+#![tactic(auto)]
+
 pub mod clause;
 pub mod sheet;
 

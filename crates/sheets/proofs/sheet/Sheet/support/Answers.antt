@@ -1,5 +1,6 @@
 use Rattle.std.proofs.Common.{◌≡◌, ◌<◌, sym, ap, ◌∙◌, subst}
 use Rattle.std.proofs.lemmas.Bool.{both_ways}
+use Rattle.std.proofs.lemmas.Bool.Decides.{Decides-eqb}
 use Rattle.sets.specs.Sets.{has, Subset}
 use Rattle.sheets.specs.Sheets.{model}
 use Rattle.sheets.specs.Support.{Supported, support}
@@ -27,7 +28,7 @@ loop-set-smaller c =
     let x = c.args.set.bits in
     let q = c.loop-set.supported.bits in
     let is = c.narrowed-narrower.ensures in
-    subst (λ n. n < q) (sym is) (narrowed_lower m.clauses x q (λ e. both_ways c.eq.result c.if-eq.false (c.eq.ensures.1 (is ∙ e))))
+    subst (λ n. n < q) (sym is) (narrowed_lower m.clauses x q (λ e. both_ways c.eq.result c.if-eq.false (c.eq.ensures ∙ (Decides-eqb c.narrowed-narrower.result.bits q).1 (is ∙ e))))
 
 pub returns-then-eq : goal.returns-then-eq
 returns-then-eq c =
@@ -35,7 +36,7 @@ returns-then-eq c =
     let x = c.args.set.bits in
     let q = c.loop-set.supported.bits in
     let is = c.narrowed-narrower.ensures in
-    let done : q ≡ support m x = support_is m x q c.loop-set.invariant.0 c.loop-set.invariant.1 (sym is ∙ c.eq.ensures.0 c.if-eq.true) in
+    let done : q ≡ support m x = support_is m x q c.loop-set.invariant.0 c.loop-set.invariant.1 (sym is ∙ (Decides-eqb c.narrowed-narrower.result.bits q).0 (sym c.eq.ensures ∙ c.if-eq.true)) in
     record {
       value = done;
       closed = subst (Supported m x) (sym done) (support_closed m x);

@@ -34,8 +34,15 @@ filled c = record {
 
 -- the invariants of the type `OpenCatalogue`, in their order
 pub sealed : (s : Sheet) (rs : Vec ComponentRecord Global) → Filled (model s) (vec_items rs) → limit ≤ vec_capacity rs
-    → (vec_len rs ≡ (model s).size) × (((model s).present ≡ below (model s).size) × ((limit ≤ vec_capacity rs) × (Unopposed (model s).conflicts × (Known (model s).present (vec_items rs) × (Foreign (vec_items rs) × Unit {0})))))
-sealed s rs f room = (rs.ok.0 ∙ f.counted, (f.whole, (room, (f.unopposed, (f.known, (f.foreign, tt))))))
+    → record {
+      counted : vec_len rs ≡ (model s).size;
+      whole : (model s).present ≡ below (model s).size;
+      room : limit ≤ vec_capacity rs;
+      unopposed : Unopposed (model s).conflicts;
+      known : Known (model s).present (vec_items rs);
+      foreign : Foreign (vec_items rs);
+    }
+sealed s rs f room = record { counted = rs.ok.0 ∙ f.counted; whole = f.whole; room = room; unopposed = f.unopposed; known = f.known; foreign = f.foreign }
 
 -- ---- no component yet
 

@@ -1,5 +1,5 @@
 -- An open catalogue as it is filled, and the sheet that it closes to.
-use Rattle.std.specs.Prelude.{ℕ, Bool, cond, ◌&&◌, ◌||◌, List, [], ◌∷◌, ◌++◌, map, length, set, Ok, Err, vec_items, Result, ◌==◌, nat_lt, slice_set}
+use Rattle.std.specs.Prelude.{ℕ, Bool, cond, ◌&&◌, ◌||◌, List, [], ◌∷◌, ◌++◌, map, length, Ok, Err, vec_items, Result, ◌==◌, nat_lt, slice_set}
 use Rattle.std.specs.List.{range_with_len}
 use Rattle.sets.specs.Limit.{limit}
 use Rattle.sets.specs.Sets.{has, within, with_member, below, collect}

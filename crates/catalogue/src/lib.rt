@@ -1,4 +1,6 @@
 //! Catalogues: an open one is filled by calls, a closed one is a ground.
+#![tactic(auto)]
+
 pub mod closed;
 pub mod opened;
 pub mod records;

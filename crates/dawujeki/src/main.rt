@@ -1,4 +1,6 @@
 //! Says what the eight exhibits of the rule book come to.
+#![tactic(auto)]
+
 ghost use Rattle.std.specs.Prelude.{◌≡◌, IfOk, OnOk};
 ghost use Rattle.catalogue.specs.Drafts.{draft, empty_draft};
 ghost use Rattle.catalogue.specs.Examples.{eight};

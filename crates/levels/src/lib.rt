@@ -1,4 +1,6 @@
 //! Levels: grounds, reductions, and the piles that they make.
+#![tactic(auto)]
+
 pub mod level;
 pub mod pile;
 pub mod reduction;

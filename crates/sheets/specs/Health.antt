@@ -1,6 +1,6 @@
 -- Which components can stand together.
 use Rattle.std.specs.Prelude.{ℕ, ◌^◌, Bool, ◌&&◌, List, ◌==◌}
-use Rattle.std.specs.List.{AllByRecursion as All}
+use Rattle.std.specs.List.{AllByRecursion}
 use Rattle.sets.specs.Sets.{has, Has, Subset, Meet, collect}
 use Rattle.sets.specs.declared.ComponentSet.{ComponentSet}
 use Rattle.sheets.specs.Clauses.{row}
@@ -13,7 +13,7 @@ Installation m x = Subset x m.present
 
 -- each clause that a component of w owns has a member in x
 abbrev pub Fed : List Clause → ℕ → ℕ → Type 0
-Fed cs w x = All (λ c. Has w c.owner → Meet c.members.bits x) cs
+Fed cs w x = AllByRecursion (λ c. Has w c.owner → Meet c.members.bits x) cs
 
 -- an installation in which every need is met and no two components conflict
 pub record Healthy (m : SheetModel) (x : ℕ) : Type 0 where

@@ -6,7 +6,7 @@ use Rattle.std.proofs.lemmas.List.Sums.{prefix_len-drop_yes, prefix_len-le-lengt
 use Rattle.std.proofs.lemmas.Bool.{cases_Bool, cases_lt, both_ways, eqb-true, eq-eqb, lt-leb, le-leb, cond-true, cond-false}
 use Rattle.texts.specs.Bytes.{blank, in_run, good}
 use Rattle.texts.proofs.Stretches.{front_stretch}
-use Rattle.stanzas.specs.Tokens.{Mention, Token, Named, Misnamed, Comma, Bar, run, named, tokens}
+use Rattle.stanzas.specs.Tokens.{Mention, Token, Named, Comma, Bar, run, named, tokens}
 use Rattle.stanzas.specs.Notes.{NotesModel, and_then, added}
 use Rattle.stanzas.specs.Values.{bars, listed, related}
 use Rattle.stanzas.specs.Cursors.{ahead, rest, token_of, Same, Took, onward, SeparatorRead, Begins, Begun}

@@ -1,7 +1,7 @@
 -- What is written out plainly is read back.
 use Rattle.std.proofs.Common.{◌≡◌, ℕ, suc, ◌+◌, ◌-◌, ◌<◌, ◌≤◌, Bool, true, false, cond, List, [], ◌∷◌, ◌++◌, map, length, take, drop, is_some, Some, None, Ok, codes, Option, Result, sym, refl, ap, ◌∙◌, arith}
 use lib.Seq.{take-append_seam, drop-append-add}
-use Rattle.std.specs.List.{AllByRecursion as All}
+use Rattle.std.specs.List.{AllByRecursion}
 use Rattle.std.specs.Str.{bytes_eq}
 use Rattle.std.proofs.lemmas.List.{append-nil, append_assoc, length-append, length-map, length_push}
 use Rattle.std.proofs.lemmas.Bool.{and_parts, cond-true, cond-false, lt-ltb, le-ltb, true≢false, false≢true}
@@ -46,16 +46,16 @@ abbrev Stays : List ℕ → Type 0
 Stays s = every in_line s ≡ true
 
 -- strings with a separator between them stay in a line where each of them does
-between_stays : (separator x : List ℕ) (xs : List (List ℕ)) → Stays separator → All Stays (x ∷ xs) → Stays (between separator (x ∷ xs))
+between_stays : (separator x : List ℕ) (xs : List (List ℕ)) → Stays separator → AllByRecursion Stays (x ∷ xs) → Stays (between separator (x ∷ xs))
 between_stays separator x [] h k = k.0
 between_stays separator x (y ∷ xs) h k = every_append in_line (x ++ separator) _ (every_append in_line x separator k.0 h) (between_stays separator y xs h k.1)
 
 -- good names do, and clauses of them
-names_stay : (ns : List (List ℕ)) → all_good ns ≡ true → All Stays ns
+names_stay : (ns : List (List ℕ)) → all_good ns ≡ true → AllByRecursion Stays ns
 names_stay [] h = tt
 names_stay (n ∷ ns) h = let g = and_parts _ _ h in (good_stays n g.0, names_stay ns g.1)
 
-clauses_stay : (cs : List (List (List ℕ))) → all_choices cs ≡ true → All Stays (map (between (codes " | ")) cs)
+clauses_stay : (cs : List (List (List ℕ))) → all_choices cs ≡ true → AllByRecursion Stays (map (between (codes " | ")) cs)
 clauses_stay [] h = tt
 clauses_stay ([] ∷ cs) h = absurd (false≢true h)
 clauses_stay ((n ∷ ns) ∷ cs) h = let g = and_parts _ _ h in (between_stays (codes " | ") n ns refl (names_stay (n ∷ ns) g.0), clauses_stay cs g.1)
@@ -150,12 +150,12 @@ new_push i [] n x h e = neither i (bytes_eq n x) None e refl
 new_push i (m ∷ ns) n x h e = let o = other i (bytes_eq m x) _ h in neither i (bytes_eq m x) _ o.0 (new_push (suc i) ns n x o.1 e)
 
 -- names among which n is not stay new after n is added
-still_new : (i : ℕ) (ns : List (List ℕ)) (n : List ℕ) (xs : List (List ℕ)) → is_some (look_up i xs n) ≡ false → All (New ns) xs → All (New (ns ++ n ∷ [])) xs
+still_new : (i : ℕ) (ns : List (List ℕ)) (n : List ℕ) (xs : List (List ℕ)) → is_some (look_up i xs n) ≡ false → AllByRecursion (New ns) xs → AllByRecursion (New (ns ++ n ∷ [])) xs
 still_new i ns n [] h k = tt
 still_new i ns n (x ∷ xs) h k = let o = other i (bytes_eq x n) _ h in (new_push 0 ns n x k.0 (same_swaps n x ∙ o.0), still_new (suc i) ns n xs o.1 k.1)
 
 -- before the first component
-all_new : (xs : List (List ℕ)) → All (New []) xs
+all_new : (xs : List (List ℕ)) → AllByRecursion (New []) xs
 all_new [] = tt
 all_new (x ∷ xs) = (refl, all_new xs)
 
@@ -163,7 +163,7 @@ all_new (x ∷ xs) = (refl, all_new xs)
 
 -- the entries that are left, of which the first is component i
 entries_read : (es : List Entry) (i : ℕ) (ns : List (List ℕ)) (ds : List NeedModel) (ks : List ClashModel) (p : ℕ)
-    → length ns ≡ i → good_entries es ≡ true → Distinct (map (λ e. e.name) es) → All (New ns) (map (λ e. e.name) es) → i + length es ≤ limit → length ds + length (needs_from i es) ≤ max_clauses
+    → length ns ≡ i → good_entries es ≡ true → Distinct (map (λ e. e.name) es) → AllByRecursion (New ns) (map (λ e. e.name) es) → i + length es ≤ limit → length ds + length (needs_from i es) ≤ max_clauses
     → stanzas (said ns ds ks no_stanza) (lines false p (written_all es)) ≡ Ok (said (ns ++ map (λ e. e.name) es) (ds ++ needs_from i es) (ks ++ clashes_from i es) no_stanza)
 entries_read [] i ns ds ks p is h apart new few room = simp append-nil
 entries_read (e ∷ es) i ns ds ks p is h apart new few room =

@@ -1,6 +1,5 @@
 -- What a file has said so far, and how a name, a clause or a conflict is added to it.
-use Rattle.std.specs.Prelude.{ℕ, suc, ◌-◌, true, false, cond, List, [], ◌∷◌, ◌++◌, map, length, is_some, Some, None, Ok, Err, Option, Result, nat_lt}
-use Rattle.std.specs.Str.{bytes_eq}
+use Rattle.std.specs.Prelude.{ℕ, ◌-◌, true, false, cond, List, [], ◌∷◌, ◌++◌, map, length, is_some, Ok, Err, Result, nat_lt}
 use Rattle.sets.specs.Limit.{limit}
 use Rattle.refusals.specs.declared.Refusal.{Refusal}
 use Rattle.refusals.specs.declared.Refusal.TheVariants.{NameTwice, TooMany, TableFull}

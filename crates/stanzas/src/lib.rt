@@ -1,4 +1,6 @@
 //! Reads a control file up to what its stanzas say: names, clauses and conflicts, still by name.
+#![tactic(auto)]
+
 mod cursor;
 pub mod lines;
 pub mod notes;

@@ -1,4 +1,6 @@
 //! Bytes, stretches of a text, and what can be wrong with one.
+#![tactic(auto)]
+
 pub mod bytes;
 pub mod faults;
 pub mod spans;

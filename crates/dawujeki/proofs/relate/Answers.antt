@@ -5,7 +5,6 @@ use Rattle.sheets.specs.declared.clause.Clause.{Clause}
 use Rattle.catalogue.specs.Drafts.{Draft, draft, clash_made}
 use Rattle.catalogue.specs.Examples.{eight, clashing}
 use Rattle.catalogue.specs.Notes.{no_record}
-use Rattle.catalogue.specs.declared.records.ComponentRecord.{ComponentRecord}
 use Rattle.dawujeki.specs.Exhibits.{unrelated}
 use Rattle.dawujeki.proofs.Obeyed.{obeyed, need_obeyed}
 use Rattle.dawujeki.proofs.relate.Goals as goal

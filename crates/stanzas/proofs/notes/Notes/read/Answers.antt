@@ -17,13 +17,13 @@ returns-in_err-read_line c =
     let text = c.args.text.now in
     let n = notes_of text c.loop-at.notes in
     let end = c.scan-end.result in
-    let p = err_from_is_err_and c.from-residual.result c.from-residual.ensures.1 in
+    let p = err_from_is_err_and c.from_residual.result c.from_residual.ensures.1 in
     record {
       value = gives_stopped text _ p.0 _ _ p.1 p.2
           (stops_then _ _ _ (λ m. stanzas m (lines false (end + 1) (drop (end + 1) text)))
           (by_lines text (omega arith) ∙ c.loop-at.invariant ∙ next_line text n c.loop-at.at end c.loop-at-test.true c.scan-end.ensures.value)
           c.in_err-read_line.ensures);
-      sound = IfOk-from_err c.from-residual.result _ c.from-residual.ensures.0;
+      sound = IfOk-from_err c.from_residual.result _ c.from_residual.ensures.0;
       plain = read_back;
     }
 

@@ -26,7 +26,7 @@ whole c = begins c.args.relation c.args.cursor.now c.is_done.new.self c.args.sel
 
 pub returns-in_err-name : goal.returns-in_err-name
 returns-in_err-name c =
-    let p = err_from_is_err_and c.from-residual.result c.from-residual.ensures.1 in
+    let p = err_from_is_err_and c.from_residual.result c.from_residual.ensures.1 in
     leaves_stopped _ _ _ p.0 _ p.1 p.2
     (begins c.args.relation c.args.cursor.now c.is_done.new.self c.args.self.now c.if-is_done.ensures
     ∙ c.loop-clause.invariant.1
@@ -34,7 +34,7 @@ returns-in_err-name c =
 
 pub returns-in_err-separator : goal.returns-in_err-separator
 returns-in_err-separator c =
-    let p = err_from_is_err_and c.from-residual-in_err-separator.result c.from-residual-in_err-separator.ensures.1 in
+    let p = err_from_is_err_and c.from_residual-in_err-separator.result c.from_residual-in_err-separator.ensures.1 in
     let text = c.is_done.new.self.text.now in
     leaves_stopped _ _ _ p.0 _ p.1 p.2
     (begins c.args.relation c.args.cursor.now c.is_done.new.self c.args.self.now c.if-is_done.ensures
@@ -58,19 +58,19 @@ loop-clause-preserved c =
       going (goal.at.loop-clause-preserved c).In_ok-separator,
       turn (goal.at.loop-clause-preserved c).In_ok-separator
           ∙ ap (after c.args.relation d n (map (mention text) (vec_items c.push.new.self))) c.in-Comma.is
-          ∙ closed_on c.args.relation text d n c.push.new.self c.replace-whole.result c.replace-whole.ensures.value (notes_of text c.add.new.self) c.replace-whole.new.dest c.new.result (c.in_ok-add.ensures text) c.replace-whole.ensures.after c.new.ensures.items,
+          ∙ closed_on c.args.relation text d n c.push.new.self c.replace-whole.result c.replace-whole.ensures.value (notes_of text c.add.new.self) c.replace-whole.new.dest c.new.result (c.in_ok-add-in-Comma.ensures text) c.replace-whole.ensures.after c.new.ensures.items,
     )
 
-pub returns-in_err-add : goal.returns-in_err-add
-returns-in_err-add c =
+pub returns-in_err-add-in-Comma : goal.returns-in_err-add-in-Comma
+returns-in_err-add-in-Comma c =
     let d = c.separator.new.self in
     let text = c.is_done.new.self.text.now in
     let n = notes_of text c.loop-clause.self in
-    let p = err_from_is_err_and c.from-residual-in_err-add.result c.from-residual-in_err-add.ensures.1 in
+    let p = err_from_is_err_and c.from_residual-in_err-add-in-Comma.result c.from_residual-in_err-add-in-Comma.ensures.1 in
     leaves_stopped _ _ _ p.0 _ p.1 p.2
     (closed_stops c.args.relation text d n c.push.new.self c.replace-whole.result c.replace-whole.ensures.value _ _
-    (whole (goal.at.returns-in_err-add c).In_ok-separator ∙ ap (after c.args.relation d n (map (mention text) (vec_items c.push.new.self))) c.in-Comma.is)
-    (c.in_err-add.ensures text))
+    (whole (goal.at.returns-in_err-add-in-Comma c).In_ok-separator ∙ ap (after c.args.relation d n (map (mention text) (vec_items c.push.new.self))) c.in-Comma.is)
+    (c.in_err-add-in-Comma.ensures text))
 
 pub returns-in-End : goal.returns-in-End
 returns-in-End c =

@@ -1,5 +1,5 @@
 -- Worked examples, computed from the bytes of a file.
-use Rattle.std.specs.Prelude.{◌≡◌, ℕ, List, [], ◌∷◌, map, Ok, Err, codes, Result}
+use Rattle.std.specs.Prelude.{◌≡◌, ℕ, List, [], ◌∷◌, Ok, Err, codes, Result}
 use Rattle.refusals.specs.declared.Refusal.TheVariants.{BadName, NameTwice}
 use Rattle.sheets.specs.Changes.{blank}
 use Rattle.sheets.specs.Examples.{set_of, need_of}

@@ -1,4 +1,6 @@
 //! Reads a control file from standard input and says what it comes to.
+#![tactic(auto)]
+
 ghost use Rattle.control_kernel.specs.Reports.{Answers};
 
 use control::ControlFile;

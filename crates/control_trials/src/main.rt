@@ -1,4 +1,6 @@
 //! Reads many small and some large control files, and prints for each the ground that it describes or its fault.
+#![tactic(auto)]
+
 mod eight;
 mod large;
 mod small;

@@ -1,4 +1,6 @@
 //! Runs the look-ups of levels and the calls of a pile on a small ground with two reductions, and prints what they answer.
+#![tactic(auto)]
+
 ghost use Rattle.std.specs.Prelude.{◌≡◌};
 ghost use Rattle.std.proofs.Common.{sym, subst, rules};
 ghost use Rattle.sheets.specs.Sheets.{model};

@@ -1,4 +1,6 @@
 //! Runs the calls of sets, sheets and catalogues on small cases and at their limits, and prints what they answer.
+#![tactic(auto)]
+
 use catalogue::{ClosedCatalogue, OpenCatalogue};
 use levels::Level;
 use refusals::{Failure, Refusal};

@@ -1,7 +1,7 @@
 -- What the program says of a file.
 use Rattle.std.specs.Prelude.{◌≡◌, ℕ, List, length, Ok, Err, Result}
 use Rattle.sets.specs.Sets.{count}
-use Rattle.sheets.specs.Sheets.{SheetModel}
+use Rattle.levels.specs.Piles.{PileModel, ground, top, base}
 use Rattle.levels.specs.declared.pile.KernelSize.{KernelSize}
 use Rattle.texts.specs.declared.faults.Fault.{Fault}
 use Rattle.texts.specs.declared.faults.ReadError.{ReadError}
@@ -9,13 +9,13 @@ use Rattle.stanzas.specs.Notes.{and_then}
 use Rattle.stanzas.specs.Views.{Stops}
 use Rattle.control.specs.Grounds.{contents}
 
--- the kernel of a ground on which nothing is piled
-abbrev pub size_of : SheetModel → KernelSize
-size_of m = record { ground = m.size; components = count m.present; clauses = length m.clauses }
+-- the kernel of a pile: the size of its ground, and the components and clauses of its top
+abbrev pub size_of : PileModel → KernelSize
+size_of p = record { ground = (base p).size; components = count (top p).present; clauses = length (top p).clauses }
 
--- the kernel of a file, or the first fault in it
+-- the kernel of a file with nothing piled on its ground, or the first fault in it
 abbrev pub kernel_of : List ℕ → Result KernelSize Fault
-kernel_of file = and_then (contents file) (λ c. Ok (size_of c.sheet))
+kernel_of file = and_then (contents file) (λ c. Ok (size_of (ground c.sheet)))
 
 -- an answer is what is due, unless it is want of memory
 abbrev pub Answers : List ℕ → Result KernelSize ReadError → Type 0

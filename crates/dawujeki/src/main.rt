@@ -75,7 +75,7 @@ fn exhibits(heap: Global) -> Result<OpenCatalogue, Failure>
 
 /// What the exhibits come to, with no reduction over them.
 fn kernel_size(heap: Global) -> Result<KernelSize, Failure>
-    ensures { IfOk result (λ k. k ≡ record { ground = 8; components = 8; clauses = 5 }) }
+    ensures { IfOk result (λ k. (k.ground ≡ 8) × (k.components ≡ 8) × (k.clauses ≡ 5)) }
 {
     let pile = Pile::on(exhibits(heap)?.close());
     Ok(pile.kernel_size())

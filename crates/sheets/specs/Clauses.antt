@@ -1,5 +1,5 @@
 -- Clauses and conflict tables, and what those of a sheet keep: the invariants of the type `Sheet`.
-use Rattle.std.specs.Prelude.{◌≡◌, ℕ, ◌<◌, true, false, List, length, get_or, slice_index_or}
+use Rattle.std.specs.Prelude.{◌≡◌, ℕ, ◌<◌, true, false, List, length, slice_index_or}
 use Rattle.sets.specs.Sets.{has, Has, within}
 use Rattle.sets.specs.declared.ComponentSet.{ComponentSet}
 use Rattle.sheets.specs.declared.clause.Clause.{Clause}
@@ -17,7 +17,7 @@ clause_at cs k = slice_index_or cs k no_clause
 
 -- the conflict set of a component, from the table of conflict sets
 abbrev pub row : List ComponentSet → ℕ → ℕ
-row table i = (get_or table i no_set).bits
+row table i = (slice_index_or table i no_set).bits
 
 -- the owner of each clause is present
 abbrev pub Owned : ℕ → List Clause → Type 0

@@ -23,8 +23,9 @@ STRING = re.compile(r'"(?:[^"\\\n]|\\.)*"')
 COMMENT = {".antt": re.compile(r"--[^\n]*"), ".rt": re.compile(r"//[^\n]*"), ".edit": re.compile(r"//[^\n]*")}
 
 
-# Names whose spelling would fall together with another: lemmas and labels that are called as a definition or a module.
+# Names whose spelling would fall together with another: lemmas and labels that are called as a definition, a module or a word of the library.
 OTHERWISE = {
+    "count-ones": "ones_count",
     "name-added": "name_added_lem",
     "clause-added": "clause_added_lem",
     "clashes-owned": "clashes_have_owners",

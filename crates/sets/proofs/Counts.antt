@@ -129,9 +129,9 @@ pub length_members : (k a : ℕ) → a < 2 ^ k → length (members a k) ≡ ones
 length_members k a h = sym (ones_members a k) ∙ ap ones (mod-eq_of_lt h)
 
 -- what `count_ones` gives
-pub count_ones : (a : ℕ) → a < 2 ^ limit → ones a ≡ count a
+pub ones_count : (a : ℕ) → a < 2 ^ limit → ones a ≡ count a
 unfolding count
-count_ones a h = sym (length_members limit a h)
+ones_count a h = sym (length_members limit a h)
 
 pub ones_pos : (a : ℕ) → 0 < a → 0 < ones a
 ones_pos a h = let m = some_member a h in omega (arith, ones_without a m.0 m.1)

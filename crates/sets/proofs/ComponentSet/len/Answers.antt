@@ -1,11 +1,11 @@
 use Rattle.std.proofs.Common.{arith}
 use lib.Count.{ones-le}
 use Rattle.sets.specs.Limit.{limit}
-use Rattle.sets.proofs.Counts.{count_ones}
+use Rattle.sets.proofs.Counts.{ones_count}
 use Rattle.sets.proofs.ComponentSet.len.Goals as goal
 
 pub overflow_cast-result : goal.overflow_cast-result
 overflow_cast-result c = omega (arith, ones-le limit c.args.self.bits (omega arith))
 
 pub returns : goal.returns
-returns c = count_ones c.args.self.bits (omega arith)
+returns c = ones_count c.args.self.bits (omega arith)

@@ -23,9 +23,8 @@ STRING = re.compile(r'"(?:[^"\\\n]|\\.)*"')
 COMMENT = {".antt": re.compile(r"--[^\n]*"), ".rt": re.compile(r"//[^\n]*"), ".edit": re.compile(r"//[^\n]*")}
 
 
-# Names whose spelling would fall together with another: lemmas and labels that are called as a definition, a module or a word of the library.
+# Names whose spelling would fall together with another: lemmas and labels that are called as a definition or a module.
 OTHERWISE = {
-    "count-ones": "ones_count",
     "name-added": "name_added_lem",
     "clause-added": "clause_added_lem",
     "clashes-owned": "clashes_have_owners",

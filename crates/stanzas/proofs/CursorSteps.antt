@@ -78,12 +78,12 @@ module _ (a : Cursor) (line : List ℕ) (is : line ≡ ahead a) (at : ℕ) (blan
       word : rest a ≡ named at (run (drop at line)) ∷ rest (moved a end)
       word =
           let front = drop_more line at 0 lt in
-          let in-run = run_from byte solid no_comma no_bar in
+          let starts_run = run_from byte solid no_comma no_bar in
           let n = prefix_len in_run (drop (at + 1) line) in
-          let more = prefix_len-drop_yes in_run line at 0 lt in-run in
+          let more = prefix_len-drop_yes in_run line at 0 lt starts_run in
           let there : at + 1 + n ≡ end = omega (arith, more) in
           skipped ∙ ap (tokens false at) front
-          ∙ at_run at byte (drop (at + 1) line) in-run
+          ∙ at_run at byte (drop (at + 1) line) starts_run
           ∙ ap (λ s. named at (run s) ∷ tokens true (at + 1) (drop (at + 1) line)) (sym front)
           ∙ ap (λ ts. named at (run (drop at line)) ∷ ts) (run_skips (at + 1) (drop (at + 1) line) ∙ ap (tokens false (at + 1 + n)) (drop-drop n (at + 1) line) ∙ ap (λ k. tokens false k (drop k line)) there ∙ rest_at end)
 

@@ -82,7 +82,6 @@ def main():
     plain = re.compile(r"[a-z]+(-[a-z]+)*")
     for p, t in texts.items():
         kind = os.path.splitext(p)[1]
-        c = code(t, kind)
         comments = [m.span() for m in COMMENT[kind].finditer(STRING.sub(lambda m: " " * len(m.group()), t))]
         strings = [m.span() for m in STRING.finditer(t)]
 

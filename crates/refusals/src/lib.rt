@@ -5,12 +5,13 @@ ghost use Rattle.std.specs.Prelude.{◌≡◌, Some};
 ghost use Rattle.refusals.specs.Refusals.{number_of, word_of};
 ghost use Rattle.refusals.specs.declared.Failure.TheVariants.{Refused, OutOfMemory};
 
-use std::alloc::AllocError;
+use std::alloc::{AllocError, AllocFailed};
 use std::error::Error;
 use std::fmt;
+use thiserror::Error;
 
 /// A rule of the rule book that declines a call. A declined call alters nothing.
-#[derive(Clone, Copy, PartialEq, Eq, Debug)]
+#[derive(Clone, Copy, PartialEq, Eq, Hash, Debug)]
 pub enum Refusal {
     BadLine = 1,
     StrayField = 2,
@@ -73,23 +74,15 @@ impl fmt::Display for Refusal {
 
 impl Error for Refusal {}
 
-/// Why something was not made: a refusal, or want of memory, which is no refusal and has no number.
-#[derive(Clone, Copy, PartialEq, Eq, Debug)]
-pub enum Failure {
-    Refused(Refusal),
+/// Why something was not made: it was refused, or memory ran out, which is no refusal and has no number.
+#[derive(Clone, Copy, PartialEq, Eq, Hash, Debug, Error)]
+#[error_bound(R: fmt::Debug + fmt::Display + Drop)]
+pub enum Failure<R = Refusal> {
+    #[error("refused: {0}")]
+    Refused(R),
+    #[error("out of memory")]
     OutOfMemory,
 }
-
-impl fmt::Display for Failure {
-    fn fmt<W: fmt::Write>(&self, f: &mut fmt::Formatter<W>) -> fmt::Result {
-        match self {
-            Self::Refused(reason) => write!(f, "refused: {reason}"),
-            Self::OutOfMemory => f.write_str("out of memory"),
-        }
-    }
-}
-
-impl Error for Failure {}
 
 impl From<Refusal> for Failure {
     ghost from_gives = { λ x r. r ≡ Refused x };
@@ -99,10 +92,18 @@ impl From<Refusal> for Failure {
     }
 }
 
-impl From<AllocError> for Failure {
+impl<R> From<AllocError> for Failure<R> {
     ghost from_gives = { λ _ r. r ≡ OutOfMemory };
 
-    fn from(_error: AllocError) -> Failure {
+    fn from(_error: AllocError) -> Failure<R> {
         Failure::OutOfMemory
+    }
+}
+
+impl<R, T: Drop> From<AllocFailed<T>> for Failure<R> {
+    ghost from_gives = { λ _ r. r ≡ OutOfMemory };
+
+    fn from(failed: AllocFailed<T>) -> Failure<R> {
+        Failure::from(AllocError::from(failed))
     }
 }

@@ -4,4 +4,4 @@ use Rattle.sets.proofs.Counts.{first_member}
 use Rattle.sets.proofs.ComponentSet.first.Goals as goal
 
 pub returns : goal.returns
-returns c = first_member limit c.args.self.bits (omega arith) (omega arith)
+returns c = rw (← c.self.view_is) (first_member limit c.self.inside.bits (omega arith) (omega arith))

@@ -5,4 +5,4 @@ use Rattle.sets.proofs.ComponentSet.intersects.Goals as goal
 
 pub returns : goal.returns
 unfolding meets
-returns c = record { value = refl; cases = meets_cases c.args.self.bits c.args.other.bits }
+returns c = rw (← c.self.view_is, ← c.other.view_is) (record { value = refl; cases = meets_cases c.self.inside.bits c.other.inside.bits })

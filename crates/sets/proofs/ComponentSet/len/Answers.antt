@@ -5,7 +5,7 @@ use Rattle.sets.proofs.Counts.{ones_count}
 use Rattle.sets.proofs.ComponentSet.len.Goals as goal
 
 pub overflow_cast-result : goal.overflow_cast-result
-overflow_cast-result c = omega (arith, ones-le limit c.args.self.bits (omega arith))
+overflow_cast-result c = omega (arith, ones-le limit c.self.inside.bits (omega arith))
 
 pub returns : goal.returns
-returns c = ones_count c.args.self.bits (omega arith)
+returns c = rw (← c.self.view_is) (ones_count c.self.inside.bits (omega arith))

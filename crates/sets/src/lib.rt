@@ -5,7 +5,7 @@
 
 ghost use Rattle.std.specs.Prelude.{◌≡◌, ℕ, ◌-◌, ◌^◌, ◌<◌, false, not, ◌&&◌, ◌||◌, MatchBool, MatchOption, ◌==◌, bit_and, bit_or, count_ones, nat_lt};
 ghost use Rattle.sets.specs.Limit.{limit};
-ghost use Rattle.sets.specs.Sets.{has, minus, within, meets, with_member, below, count, First, Subset, Beyond, Meet, Apart};
+ghost use Rattle.sets.specs.Sets.{has, minus, within, meets, with_member, below, count, First, MadeOf, Subset, Beyond, Meet, Apart};
 ghost use Rattle.std.specs.Iterator.{at_most};
 
 use std::fmt;
@@ -171,6 +171,31 @@ impl ComponentSet {
         ensures { result.rest ≡ self }
     {
         Members { rest: self }
+    }
+}
+
+impl<const N: usize> From<[usize; N]> for ComponentSet {
+    ghost from_gives = { MadeOf };
+
+    /// The set of these numbers.
+    fn from(components: [usize; N]) -> Self {
+        let mut set = Self::empty();
+        for component in components {
+            set = set.with(component);
+        }
+        set
+    }
+}
+
+impl IntoIterator for ComponentSet {
+    type Item = usize;
+
+    type IntoIter = Members;
+
+    ghost into_iter_gives = { λ s r. r.rest ≡ s };
+
+    fn into_iter(self) -> Members {
+        self.iter()
     }
 }
 

@@ -32,6 +32,7 @@ impl Model for ComponentSet {
 }
 
 /// The word whose one member is `component`.
+#[tactic(auto, using(crate::proofs::Calls::calls))]
 fn bit(component: usize) -> Word
     requires { component < limit }
     ensures { result ≡ 2 ^ component }
@@ -39,6 +40,7 @@ fn bit(component: usize) -> Word
     1 << component
 }
 
+#[tactic(auto, using(crate::proofs::Calls::calls))]
 impl ComponentSet {
     /// How many components there can be: a set holds numbers below this.
     pub const LIMIT: usize = Word::BITS as usize;

@@ -23,7 +23,7 @@ pub formed : (s : Sheet) → Formed (model s)
 formed s = record {
   small = s.small;
   bounded = s.bounded;
-  rows = sym s.conflicts.ok.0 ∙ s.rows;
+  rows = sym s.conflicts.ok.0;
   few = omega (arith, s.few, s.clauses.ok.0);
   owned = s.owned;
   known = s.known;
@@ -32,35 +32,41 @@ formed s = record {
   irreflexive = s.irreflexive;
 }
 
--- the invariants of the type `Sheet`, in their order, from those of its model and the room of its tables
-pub sealed : (n p : ℕ) (cs : Vec Clause Global) (table : Vec ComponentSet Global)
-    → Formed (record { size = n; present = p; clauses = vec_items cs; conflicts = vec_items table }) → limit ≤ vec_capacity table → max_clauses ≤ vec_capacity cs
-    → record {
-      small : n ≤ limit;
-      bounded : p < 2 ^ n;
-      rows : vec_len table ≡ n;
-      row_room : limit ≤ vec_capacity table;
-      few : vec_len cs ≤ max_clauses;
-      clause_room : max_clauses ≤ vec_capacity cs;
-      owned : Owned p (vec_items cs);
-      known : Known p (vec_items cs);
-      among : Among p (vec_items table);
-      «mutual» : Mutual (vec_items table);
-      irreflexive : Irreflexive (vec_items table);
-    }
-sealed n p cs table w r s = record {
-  small = w.small;
-  bounded = w.bounded;
-  rows = table.ok.0 ∙ w.rows;
-  row_room = r;
-  few = omega (arith, w.few, cs.ok.0);
-  clause_room = s;
-  owned = w.owned;
-  known = w.known;
-  among = w.among;
-  «mutual» = w.mutuals;
-  irreflexive = w.irreflexive;
-}
+-- a model that keeps the rules, and the parts of a sheet that it is the model of
+module _ (m : SheetModel) (w : Formed m) (p : ℕ) (cs : Vec Clause Global) (table : Vec ComponentSet Global)
+    (same_present : m.present ≡ p) (same_clauses : m.clauses ≡ vec_items cs) (same_conflicts : m.conflicts ≡ vec_items table) where
+  pub same_model : m ≡ (record { size = vec_len table; present = p; clauses = vec_items cs; conflicts = vec_items table })
+  same_model =
+      let by_parts : m ≡ (record { size = m.size; present = m.present; clauses = m.clauses; conflicts = m.conflicts }) = refl in
+      let same_size : m.size ≡ vec_len table = sym w.rows ∙ ap length same_conflicts ∙ sym table.ok.0 in
+      cc
+
+  -- the invariants of the type `Sheet`, in their order
+  pub sealed : limit ≤ vec_capacity table → max_clauses ≤ vec_capacity cs
+      → record {
+        small : vec_len table ≤ limit;
+        bounded : p < 2 ^ vec_len table;
+        row_room : limit ≤ vec_capacity table;
+        few : vec_len cs ≤ max_clauses;
+        clause_room : max_clauses ≤ vec_capacity cs;
+        owned : Owned p (vec_items cs);
+        known : Known p (vec_items cs);
+        among : Among p (vec_items table);
+        «mutual» : Mutual (vec_items table);
+        irreflexive : Irreflexive (vec_items table);
+      }
+  sealed r s = let v = subst Formed same_model w in record {
+    small = v.small;
+    bounded = v.bounded;
+    row_room = r;
+    few = omega (arith, v.few, cs.ok.0);
+    clause_room = s;
+    owned = v.owned;
+    known = v.known;
+    among = v.among;
+    «mutual» = v.mutuals;
+    irreflexive = v.irreflexive;
+  }
 
 -- what is present is below the size, and below the limit
 module _ (m : SheetModel) (w : Formed m) where
@@ -129,12 +135,12 @@ grown_formed m w lt = record {
     wider = sub_or_left m.present (2 ^ m.size)
 
 -- what the code makes of a sheet with one more component
-pub grown_as : (m : SheetModel) (p : ℕ) (none : ComponentSet) (table : List ComponentSet) → m.size < limit → p ≡ with_member m.present m.size → none.bits ≡ 0 → table ≡ m.conflicts ++ none ∷ []
-    → grown m ≡ (record { size = m.size + 1; present = p; clauses = m.clauses; conflicts = table })
-grown_as m p none table lt e z q =
-    let a : bit_or m.present (2 ^ m.size) ≡ p = with_is m.present m.size lt ∙ sym e in
-    let b : m.conflicts ++ no_set ∷ [] ≡ table = ap (λ (n : ℕ). m.conflicts ++ (record { bits = n }) ∷ []) (sym z) ∙ sym q in
-    cc
+pub grown_parts : (m : SheetModel) (k p : ℕ) (none : ComponentSet) (table : List ComponentSet) → m.size < limit → k ≡ m.size → p ≡ with_member m.present k → none.bits ≡ 0 → table ≡ m.conflicts ++ none ∷ []
+    → ((grown m).present ≡ p) × ((grown m).conflicts ≡ table)
+grown_parts m k p none table lt at e z q = (
+  with_is m.present m.size lt ∙ ap (with_member m.present) (sym at) ∙ sym e,
+  ap (λ (n : ℕ). m.conflicts ++ (record { bits = n }) ∷ []) (sym z) ∙ sym q,
+)
 
 -- ---- one more clause
 

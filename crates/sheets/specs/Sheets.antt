@@ -1,5 +1,5 @@
 -- What a sheet says: its model.
-use Rattle.std.specs.Prelude.{◌≡◌, ℕ, ◌^◌, ◌<◌, ◌≤◌, cond, List, length, Ok, Err, vec_items, Result, nat_lt, slice_index_or}
+use Rattle.std.specs.Prelude.{◌≡◌, ℕ, ◌^◌, ◌<◌, ◌≤◌, cond, List, length, Ok, Err, vec_items, vec_len, Result, nat_lt, slice_index_or}
 use Rattle.sets.specs.Limit.{limit}
 use Rattle.sets.specs.Sets.{has}
 use Rattle.sets.specs.declared.ComponentSet.{ComponentSet}
@@ -18,7 +18,7 @@ pub record SheetModel : Type 0 where
   pub conflicts : List ComponentSet
 
 abbrev pub model : Sheet → SheetModel
-model s = record { size = s.size; present = s.present.bits; clauses = vec_items s.clauses; conflicts = vec_items s.conflicts }
+model s = record { size = vec_len s.conflicts; present = s.present.bits; clauses = vec_items s.clauses; conflicts = vec_items s.conflicts }
 
 -- the components that i conflicts with
 abbrev pub conflicts_of : SheetModel → ℕ → ℕ

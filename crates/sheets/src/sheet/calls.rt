@@ -13,7 +13,7 @@ impl Sheet {
         ensures value { result ≡ (model self.now).size }
         ensures formed { Formed (model self.now) }
     {
-        self.size
+        self.conflicts.len()
     }
 
     /// The components that are present.

@@ -21,7 +21,6 @@ impl Sheet {
         let clauses = Vec::with_capacity(heap, Self::MAX_CLAUSES)?;
         let conflicts = Vec::with_capacity(heap, ComponentSet::LIMIT)?;
         Ok(Sheet {
-            size: 0,
             present: ComponentSet::empty(),
             clauses,
             conflicts,
@@ -37,7 +36,6 @@ impl Sheet {
         let mut conflicts = Vec::with_capacity(heap, ComponentSet::LIMIT)?;
         conflicts.extend_from_slice(self.conflicts.as_slice())?;
         Ok(Sheet {
-            size: self.size,
             present: self.present,
             clauses,
             conflicts,
@@ -48,13 +46,12 @@ impl Sheet {
     pub fn add_component(&mut self) -> Result<usize, Refusal>
         ensures { Goes (component_added (model self.old)) (model self.old).size result (model self.old) (model self.new) }
     {
-        let component = self.size;
+        let component = self.conflicts.len();
         if component >= ComponentSet::LIMIT {
             return Err(Refusal::TooMany);
         }
         self.conflicts.push_reserved(ComponentSet::empty());
         self.present = self.present.with(component);
-        self.size = component + 1;
         Ok(component)
     }
 

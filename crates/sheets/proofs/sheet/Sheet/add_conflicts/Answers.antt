@@ -1,9 +1,9 @@
-use Rattle.std.proofs.Common.{◌≡◌, true, false, List, sym, refl, ap, ◌∙◌, subst, rules}
+use Rattle.std.proofs.Common.{◌≡◌, true, false, List, sym, refl, ap, ◌∙◌, rules}
 use Rattle.std.specs.Vec.{with_items}
 use Rattle.std.proofs.lemmas.Bool.{and_from}
 use Rattle.sets.specs.Sets.{has, Has, within}
 use Rattle.sets.specs.declared.ComponentSet.{ComponentSet}
-use Rattle.sheets.specs.Sheets.{model, Formed}
+use Rattle.sheets.specs.Sheets.{model}
 use Rattle.sheets.specs.Clauses.{row}
 use Rattle.sheets.specs.Changes.{opposed, with_conflicts}
 use Rattle.sheets.proofs.Forms.{formed, sealed, opposed_formed, opposed_both, refilled_opposed}
@@ -19,7 +19,7 @@ invariant_of-self c =
     let q : within qs m.present ≡ true = search rules in
     let n : has qs p ≡ false = search rules in
     let is = refilled_opposed s.conflicts c.oppose.new.table p qs (c.oppose.ensures ∙ ap (λ (t : List ComponentSet). opposed t p qs) c.as_mut_slice.ensures.value) in
-    sealed s.size s.present.bits s.clauses (with_items s.conflicts c.oppose.new.table) (subst (λ (t : List ComponentSet). Formed (with_conflicts m t)) (sym is) (opposed_formed m p qs (formed s) h q n)) s.row_room s.clause_room
+    sealed _ (opposed_formed m p qs (formed s) h q n) s.present.bits s.clauses (with_items s.conflicts c.oppose.new.table) refl refl (sym is) s.row_room s.clause_room
 
 pub returns : goal.returns
 returns c =

@@ -9,7 +9,7 @@ pub index-requires : goal.index-requires
 index-requires c =
     let s = c.args.self.now in
     let h : Has s.present.bits c.args.component = search rules in
-    omega (arith, present_below (model s) (formed s) c.args.component h, s.rows)
+    omega (arith, present_below (model s) (formed s) c.args.component h)
 
 pub returns : goal.returns
 returns c =

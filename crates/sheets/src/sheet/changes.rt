@@ -27,21 +27,6 @@ impl Sheet {
         })
     }
 
-    /// The same sheet once more, with the same room.
-    pub fn copy(&self, heap: Global) -> Result<Sheet, AllocError>
-        ensures { IfOk result (λ s. model s ≡ model self.now) }
-    {
-        let mut clauses = Vec::with_capacity(heap, Self::MAX_CLAUSES)?;
-        clauses.extend_from_slice(self.clauses.as_slice())?;
-        let mut conflicts = Vec::with_capacity(heap, ComponentSet::LIMIT)?;
-        conflicts.extend_from_slice(self.conflicts.as_slice())?;
-        Ok(Sheet {
-            present: self.present,
-            clauses,
-            conflicts,
-        })
-    }
-
     /// One more component, and its number; too-many past the limit.
     pub fn add_component(&mut self) -> Result<usize, Refusal>
         ensures { Goes (component_added (model self.old)) (model self.old).size result (model self.old) (model self.new) }
@@ -83,6 +68,24 @@ impl Sheet {
         }
         oppose(self.conflicts.as_mut_slice(), component, others);
         Ok(())
+    }
+}
+
+impl Clone for Sheet {
+    ghost is_clone = { λ s t. model t ≡ model s };
+
+    /// The same sheet once more, with the same room.
+    fn clone(&self) -> Result<Sheet, AllocError> {
+        let heap = *self.clauses.allocator();
+        let mut clauses = Vec::with_capacity(heap, Self::MAX_CLAUSES)?;
+        clauses.extend_from_slice(self.clauses.as_slice())?;
+        let mut conflicts = Vec::with_capacity(heap, ComponentSet::LIMIT)?;
+        conflicts.extend_from_slice(self.conflicts.as_slice())?;
+        Ok(Sheet {
+            present: self.present,
+            clauses,
+            conflicts,
+        })
     }
 }
 

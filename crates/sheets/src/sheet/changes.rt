@@ -111,7 +111,7 @@ fn opposed_set(
 fn oppose(table: &mut [ComponentSet], component: usize, others: ComponentSet)
     ensures { table.new ≡ opposed table.old component others.bits }
 {
-    for i in 0..table.len() {
-        table[i] = opposed_set(table[i], component, others, i);
+    for (i, conflicts) in table.iter_mut().enumerate() {
+        *conflicts = opposed_set(*conflicts, component, others, i);
     }
 }

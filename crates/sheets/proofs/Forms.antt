@@ -1,10 +1,10 @@
 -- What every sheet keeps, and that each change keeps it.
-use Rattle.std.proofs.Common.{◌≡◌, ℕ, zero, suc, ◌+◌, ◌^◌, ◌<◌, ◌≤◌, Bool, true, false, ◌&&◌, ◌||◌, eqb, ltb, ◌⊎◌, List, [], ◌∷◌, ◌++◌, length, vec_items, vec_len, vec_capacity, Vec, sym, refl, ap, ◌∙◌, subst, inl, inr, pow-suc, add-one, arith, below_more}
+use Rattle.std.proofs.Common.{◌≡◌, ℕ, zero, suc, ◌+◌, ◌^◌, ◌<◌, ◌≤◌, Bool, true, false, ◌&&◌, ◌||◌, eqb, ltb, ◌⊎◌, List, [], ◌∷◌, ◌++◌, length, get_or, vec_items, vec_len, vec_capacity, Vec, sym, refl, ap, ◌∙◌, subst, inl, inr, pow-suc, add-one, arith, below_more}
 use lib.Bits.{bit_or}
 use Rattle.std.specs.Vec.{with_items}
 use Rattle.std.specs.declared.alloc.Global.{Global}
 use Rattle.std.proofs.lemmas.Nat.{or_lt}
-use Rattle.std.proofs.lemmas.List.FromFn.{get_or-map-range_with_len, length-map-range_with_len}
+use Rattle.std.proofs.lemmas.List.FromFn.{get_or-map-range_with_len, length-map-range_with_len, fill_by_all}
 use Rattle.std.proofs.lemmas.List.{length_push, get_or_push, get_or_append_left, get_or_past, with_items_is}
 use Rattle.std.proofs.lemmas.Bool.{cases_Bool, cases_lt, both_ways, eq-eqb, eqb-true, lt-ltb, and_from, and_parts, or_left, or_right, or_cases, cond-true, cond-false}
 use Rattle.sets.specs.Limit.{limit}
@@ -307,6 +307,9 @@ opposed_both m p qs w h q other i j = go (cases_Bool (has (row (opposed m.confli
     go (inr g) (inr t) = g ∙ sym t
 
 -- what the code makes of the table
-pub refilled_opposed : (t : Vec ComponentSet Global) (ws : List ComponentSet) (p qs : ℕ) → ws ≡ opposed (vec_items t) p qs → vec_items (with_items t ws) ≡ opposed (vec_items t) p qs
-refilled_opposed t ws p qs e =
-    with_items_is t ws (ap length e ∙ length-map-range_with_len (opposed_row (vec_items t) p qs) 0 (length (vec_items t)) ∙ sym t.ok.0) ∙ e
+pub refilled_opposed : (t : Vec ComponentSet Global) (ws : List ComponentSet) (p qs : ℕ) → length ws ≡ length (vec_items t)
+    → ((k : ℕ) → k < length (vec_items t) → get_or ws k no_set ≡ opposed_row (vec_items t) p qs k)
+    → opposed (vec_items t) p qs ≡ vec_items (with_items t ws)
+refilled_opposed t ws p qs same each =
+    let filled = fill_by_all (opposed_row (vec_items t) p qs) ws (length (vec_items t)) no_set same each in
+    sym (with_items_is t ws (same ∙ sym t.ok.0) ∙ filled)

@@ -66,7 +66,14 @@ impl Sheet {
         if others.contains(component) {
             return Err(Refusal::SelfClash);
         }
-        oppose(self.conflicts.as_mut_slice(), component, others);
+        let table = self.conflicts.as_mut_slice();
+        for (i, conflicts) in table.iter_mut().enumerate() {
+            if i == component {
+                *conflicts = *conflicts | others;
+            } else if others.contains(i) {
+                *conflicts = conflicts.with(component);
+            }
+        }
         Ok(())
     }
 }
@@ -86,32 +93,5 @@ impl Clone for Sheet {
             clauses,
             conflicts,
         })
-    }
-}
-
-/// The conflict set of component `i`, once `component` conflicts with the others.
-fn opposed_set(
-    conflicts: ComponentSet,
-    component: usize,
-    others: ComponentSet,
-    i: usize,
-) -> ComponentSet
-    ensures { result.bits ≡ opposed_set conflicts.bits component others.bits i }
-{
-    if i == component {
-        conflicts | others
-    } else if others.contains(i) {
-        conflicts.with(component)
-    } else {
-        conflicts
-    }
-}
-
-/// Turns each conflict set of a table into the one with the new conflicts.
-fn oppose(table: &mut [ComponentSet], component: usize, others: ComponentSet)
-    ensures { table.new ≡ opposed table.old component others.bits }
-{
-    for (i, conflicts) in table.iter_mut().enumerate() {
-        *conflicts = opposed_set(*conflicts, component, others, i);
     }
 }

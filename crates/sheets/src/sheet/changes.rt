@@ -66,8 +66,7 @@ impl Sheet {
         if others.contains(component) {
             return Err(Refusal::SelfClash);
         }
-        let table = self.conflicts.as_mut_slice();
-        for (i, conflicts) in table.iter_mut().enumerate() {
+        for (i, conflicts) in self.conflicts.iter_mut().enumerate() {
             if i == component {
                 *conflicts = *conflicts | others;
             } else if others.contains(i) {

@@ -23,7 +23,12 @@ impl Sheet {
         if set.intersects(self.unmet(set)) {
             return false;
         }
-        is_quiet(self.conflicts.as_slice(), set)
+        for (i, conflicts) in self.conflicts.iter().enumerate() {
+            if set.contains(i) && set.intersects(*conflicts) {
+                return false;
+            }
+        }
+        true
     }
 
     /// The components that conflict with none.
@@ -31,7 +36,13 @@ impl Sheet {
         ensures value { result.bits ≡ clear (model self.now) }
         ensures members { (i : ℕ) → has result.bits i ≡ is_clear (model self.now).present (model self.now).conflicts i }
     {
-        clear_of(self.present, self.conflicts.as_slice())
+        let mut clear = ComponentSet::empty();
+        for (i, conflicts) in self.conflicts.iter().enumerate() {
+            if self.present.contains(i) && conflicts.is_empty() {
+                clear = clear.with(i);
+            }
+        }
+        clear
     }
 
     /// The support of a set: the greatest set of clear components each of whose needs is met by the set or by itself.
@@ -63,7 +74,13 @@ impl Sheet {
     fn unmet(&self, set: ComponentSet) -> ComponentSet
         ensures { result.bits ≡ unmet (model self.now).clauses set.bits }
     {
-        unmet_owners(self.clauses.as_slice(), set)
+        let mut owners = ComponentSet::empty();
+        for clause in &self.clauses {
+            if !clause.members.intersects(set) {
+                owners = owners.with(clause.owner);
+            }
+        }
+        owners
     }
 
     /// The candidates each of whose needs is met by the set or by the candidates.
@@ -72,44 +89,4 @@ impl Sheet {
     {
         candidates - self.unmet(set | candidates)
     }
-}
-
-/// The owners of the clauses that have no member in a set.
-fn unmet_owners(clauses: &[Clause], set: ComponentSet) -> ComponentSet
-    requires { (k : ℕ) → k < length clauses.now → (clause_at clauses.now k).owner < limit }
-    ensures { result.bits ≡ unmet clauses.now set.bits }
-{
-    let mut owners = ComponentSet::empty();
-    for clause in clauses {
-        if !clause.members.intersects(set) {
-            owners = owners.with(clause.owner);
-        }
-    }
-    owners
-}
-
-/// Whether no two components of a set conflict.
-fn is_quiet(table: &[ComponentSet], set: ComponentSet) -> bool
-    ensures { Decides result ((i : ℕ) → i < length table.now → Has set.bits i → Apart set.bits (row table.now i)) }
-{
-    for (i, conflicts) in table.iter().enumerate() {
-        if set.contains(i) && set.intersects(*conflicts) {
-            return false;
-        }
-    }
-    true
-}
-
-/// The present components that conflict with none.
-fn clear_of(present: ComponentSet, table: &[ComponentSet]) -> ComponentSet
-    requires { length table.now ≤ limit }
-    ensures { result.bits ≡ collect (is_clear present.bits table.now) (length table.now) }
-{
-    let mut clear = ComponentSet::empty();
-    for (i, conflicts) in table.iter().enumerate() {
-        if present.contains(i) && conflicts.is_empty() {
-            clear = clear.with(i);
-        }
-    }
-    clear
 }

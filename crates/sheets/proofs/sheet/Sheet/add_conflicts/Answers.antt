@@ -18,8 +18,8 @@ invariant_of-self c =
     let h : Has m.present p = search rules in
     let q : within qs m.present ≡ true = search rules in
     let n : has qs p ≡ false = search rules in
-    let is = refilled_opposed s.conflicts c.loop-i.table p qs (omega (arith, ap length c.as_mut_slice-table.ensures.value)) (λ k lt. c.loop-i.invariant.done k (omega (arith, ap length c.as_mut_slice-table.ensures.value))) in
-    sealed _ (opposed_formed m p qs (formed s) h q n) s.present.bits s.clauses (with_items s.conflicts c.loop-i.table) refl refl is s.row_room s.clause_room
+    let is = refilled_opposed s.conflicts c.loop-i.conflicts-items p qs (omega (arith, ap length c.deref_mut-conflicts-items.ensures.value)) (λ k lt. c.loop-i.invariant.done k (omega (arith, ap length c.deref_mut-conflicts-items.ensures.value))) in
+    sealed _ (opposed_formed m p qs (formed s) h q n) s.present.bits s.clauses (with_items s.conflicts c.loop-i.conflicts-items) refl refl is s.row_room s.clause_room
 
 pub returns : goal.returns
 returns c =
@@ -30,7 +30,7 @@ returns c =
     let h : Has m.present p = search rules in
     let q : within qs m.present ≡ true = search rules in
     let n : has qs p ≡ false = search rules in
-    let is = refilled_opposed s.conflicts c.loop-i.table p qs (omega (arith, ap length c.as_mut_slice-table.ensures.value)) (λ k lt. c.loop-i.invariant.done k (omega (arith, ap length c.as_mut_slice-table.ensures.value))) in
+    let is = refilled_opposed s.conflicts c.loop-i.conflicts-items p qs (omega (arith, ap length c.deref_mut-conflicts-items.ensures.value)) (λ k lt. c.loop-i.invariant.done k (omega (arith, ap length c.deref_mut-conflicts-items.ensures.value))) in
     let both = and_from (has m.present p) (within qs m.present) h q in
     record {
       goes = rw (both, n) (refl, ap (with_conflicts m) (sym is));

@@ -2,8 +2,10 @@
 use Rattle.std.proofs.Common.{◌≡◌, ℕ, ◌+◌, ◌/◌, ◌^◌, Bool, true, false, cond, not, ◌&&◌, eqb, ◌⊎◌, sym, ap, ◌∙◌, subst, inl, inr, one-mul, zero-add, add-one, arith}
 use lib.Bits.{bit_or, or_comm, or_shifted, and_mask, bit_and}
 use Rattle.std.proofs.lemmas.Bool.{cases_eq, both_ways, ne_eqb, and_parts}
-use Rattle.sets.specs.Sets.{has, Has, Subset, minus, collect}
-use Rattle.sets.proofs.Membership.{has_minus, has_single, has_empty, collect_lt}
+use Rattle.std.proofs.Common.{◌<◌, ◌||◌, List, [], ◌∷◌, length, drop, get_or, drop-cons, ltb}
+use Rattle.sets.specs.Limit.{limit}
+use Rattle.sets.specs.Sets.{has, Has, Subset, MadeOf, minus, collect, with_member, with_members, listed}
+use Rattle.sets.proofs.Membership.{has_minus, has_single, has_empty, has_with, collect_lt}
 
 -- `a >> i & 1 == 1`
 pub has_tested : (a i : ℕ) → eqb (bit_and (a / 2 ^ i) 1) 1 ≡ has a i
@@ -47,3 +49,26 @@ visited_more {P} {s} {rest} i v p = record {
 
 pub visited_all : {P : ℕ → Type 0} {s rest : ℕ} → Visited P s rest → rest ≡ 0 → (i : ℕ) → has s i ≡ true → P i
 visited_all {P} {s} {rest} v z i h = v.seen i h (ap (λ (x : ℕ). has x i) z ∙ has_empty i)
+
+-- ---- loops over a list of numbers
+
+-- the number at k, before the later ones
+pub with_next : (s : ℕ) (is : List ℕ) (k : ℕ) → k < length is → with_members s (drop k is) ≡ with_members (with_member s (get_or is k 0)) (drop (k + 1) is)
+unfolding with_members
+with_next s is k h = rw (drop-cons is k 0, ← add-one k)
+
+-- the members of s and of the list
+pub has_with_members : (s : ℕ) (is : List ℕ) (i : ℕ) → has (with_members s is) i ≡ (has s i || (listed is i && ltb i limit))
+unfolding with_members listed
+has_with_members s [] i = grind arith
+has_with_members s (j ∷ js) i =
+    let e : has (with_members (with_member s j) js) i ≡ (has (with_member s j) i || (listed js i && ltb i limit)) = has_with_members (with_member s j) js i in
+    let w : has (with_member s j) i ≡ (has s i || (eqb i j && ltb i limit)) = has_with s j i in
+    grind arith
+
+-- a set to which the numbers of a list were added one by one
+pub made_of : (is : List ℕ) (s : ℕ) → s ≡ with_members 0 is → MadeOf is s
+made_of is s e = record {
+  value = e;
+  members = λ i. ap (λ (x : ℕ). has x i) e ∙ has_with_members 0 is i ∙ ap (λ b. b || (listed is i && ltb i limit)) (has_empty i);
+}

@@ -5,10 +5,11 @@
 
 ghost use Rattle.std.specs.Prelude.{◌≡◌, ℕ, ◌-◌, ◌^◌, ◌<◌, false, not, ◌&&◌, ◌||◌, MatchBool, MatchOption, ◌==◌, bit_and, bit_or, count_ones, nat_lt};
 ghost use Rattle.sets.specs.Limit.{limit};
-ghost use Rattle.sets.specs.Sets.{has, minus, within, meets, with_member, below, count, First, Subset, Beyond, Meet, Apart};
+ghost use Rattle.sets.specs.Sets.{has, minus, within, meets, with_member, below, count, First, MadeOf, Subset, Beyond, Meet, Apart};
 ghost use Rattle.std.specs.Iterator.{at_most};
 
 use std::fmt;
+use std::marker::Model;
 use std::ops::{BitAnd, BitOr, Sub};
 
 /// The word that holds a set. A wider limit is another word here and another number in `specs/Limit.antt`.
@@ -20,7 +21,18 @@ pub struct ComponentSet {
     bits: Word,
 }
 
+impl Model for ComponentSet {
+    ghost Value = { ℕ };
+
+    ghost view = { λ s. s.bits };
+
+    ghost invariant = { λ s. s.bits < 2 ^ limit };
+
+    ghost inverse = { λ n. record { bits = n } };
+}
+
 /// The word whose one member is `component`.
+#[tactic(auto, using(crate::proofs::Calls::calls))]
 fn bit(component: usize) -> Word
     requires { component < limit }
     ensures { result ≡ 2 ^ component }
@@ -28,22 +40,23 @@ fn bit(component: usize) -> Word
     1 << component
 }
 
+#[tactic(auto, using(crate::proofs::Calls::calls))]
 impl ComponentSet {
     /// How many components there can be: a set holds numbers below this.
     pub const LIMIT: usize = Word::BITS as usize;
 
     /// The set without members.
     pub const fn empty() -> Self
-        ensures value { result.bits ≡ 0 }
-        ensures members { (i : ℕ) → has result.bits i ≡ false }
+        ensures value { result ≡ 0 }
+        ensures members { (i : ℕ) → has result i ≡ false }
     {
         ComponentSet { bits: 0 }
     }
 
     /// The numbers below `n`.
     pub fn full(n: usize) -> Self
-        ensures value { result.bits ≡ below n }
-        ensures members { (i : ℕ) → has result.bits i ≡ (nat_lt i n && nat_lt i limit) }
+        ensures value { result ≡ below n }
+        ensures members { (i : ℕ) → has result i ≡ (nat_lt i n && nat_lt i limit) }
     {
         if n >= Self::LIMIT {
             return ComponentSet { bits: Word::MAX };
@@ -53,16 +66,16 @@ impl ComponentSet {
 
     /// Whether `component` is a member. A set is its members: no other set has the same.
     pub fn contains(self, component: usize) -> bool
-        ensures value { result ≡ has self.bits component }
-        ensures extensional { (t : ℕ) → ((i : ℕ) → has t i ≡ has self.bits i) → t ≡ self.bits }
+        ensures value { result ≡ has self component }
+        ensures extensional { (t : ℕ) → ((i : ℕ) → has t i ≡ has self i) → t ≡ self }
     {
         component < Self::LIMIT && self.bits >> component & 1 == 1
     }
 
     /// The set with one more member.
     pub fn with(self, component: usize) -> Self
-        ensures value { result.bits ≡ with_member self.bits component }
-        ensures members { (i : ℕ) → has result.bits i ≡ (has self.bits i || (i == component && nat_lt i limit)) }
+        ensures value { result ≡ with_member self component }
+        ensures members { (i : ℕ) → has result i ≡ (has self i || (i == component && nat_lt i limit)) }
     {
         if component >= Self::LIMIT {
             return self;
@@ -74,8 +87,8 @@ impl ComponentSet {
 
     /// The set with one member less.
     pub fn without(self, component: usize) -> Self
-        ensures value { result.bits ≡ minus self.bits (2 ^ component) }
-        ensures members { (i : ℕ) → has result.bits i ≡ (has self.bits i && not (i == component)) }
+        ensures value { result ≡ minus self (2 ^ component) }
+        ensures members { (i : ℕ) → has result i ≡ (has self i && not (i == component)) }
     {
         if component >= Self::LIMIT {
             return self;
@@ -87,8 +100,8 @@ impl ComponentSet {
 
     /// The members of either.
     pub fn union(self, other: Self) -> Self
-        ensures value { result.bits ≡ bit_or self.bits other.bits }
-        ensures members { (i : ℕ) → has result.bits i ≡ (has self.bits i || has other.bits i) }
+        ensures value { result ≡ bit_or self other }
+        ensures members { (i : ℕ) → has result i ≡ (has self i || has other i) }
     {
         ComponentSet {
             bits: self.bits | other.bits,
@@ -97,8 +110,8 @@ impl ComponentSet {
 
     /// The members of both.
     pub fn intersection(self, other: Self) -> Self
-        ensures value { result.bits ≡ bit_and self.bits other.bits }
-        ensures members { (i : ℕ) → has result.bits i ≡ (has self.bits i && has other.bits i) }
+        ensures value { result ≡ bit_and self other }
+        ensures members { (i : ℕ) → has result i ≡ (has self i && has other i) }
     {
         ComponentSet {
             bits: self.bits & other.bits,
@@ -107,8 +120,8 @@ impl ComponentSet {
 
     /// The members that `other` does not have.
     pub fn difference(self, other: Self) -> Self
-        ensures value { result.bits ≡ minus self.bits other.bits }
-        ensures members { (i : ℕ) → has result.bits i ≡ (has self.bits i && not (has other.bits i)) }
+        ensures value { result ≡ minus self other }
+        ensures members { (i : ℕ) → has result i ≡ (has self i && not (has other i)) }
     {
         ComponentSet {
             bits: self.bits & !other.bits,
@@ -117,37 +130,37 @@ impl ComponentSet {
 
     /// Whether `other` has every member.
     pub fn is_subset(self, other: Self) -> bool
-        ensures value { result ≡ within self.bits other.bits }
-        ensures cases { MatchBool result (Subset self.bits other.bits) (Beyond self.bits other.bits) }
+        ensures value { result ≡ within self other }
+        ensures cases { MatchBool result (Subset self other) (Beyond self other) }
     {
         self.bits & other.bits == self.bits
     }
 
     /// Whether the two have a member in common.
     pub fn intersects(self, other: Self) -> bool
-        ensures value { result ≡ meets self.bits other.bits }
-        ensures cases { MatchBool result (Meet self.bits other.bits) (Apart self.bits other.bits) }
+        ensures value { result ≡ meets self other }
+        ensures cases { MatchBool result (Meet self other) (Apart self other) }
     {
         self.bits & other.bits != 0
     }
 
     /// Whether there is no member.
     pub fn is_empty(self) -> bool
-        ensures { result ≡ (self.bits == 0) }
+        ensures { result ≡ (self == 0) }
     {
         self.bits == 0
     }
 
     /// How many members there are.
     pub fn len(self) -> usize
-        ensures { result ≡ count self.bits }
+        ensures { result ≡ count self }
     {
         self.bits.count_ones() as usize
     }
 
     /// The least member.
     pub fn first(self) -> Option<usize>
-        ensures { MatchOption result (self.bits ≡ 0) (λ i. (i < limit) × First self.bits i) }
+        ensures { MatchOption result (self ≡ 0) (λ i. (i < limit) × First self i) }
     {
         if self.bits == 0 {
             return None;
@@ -163,32 +176,57 @@ impl ComponentSet {
     }
 }
 
-impl BitOr<ComponentSet> for ComponentSet {
-    type Output = ComponentSet;
+impl<const N: usize> From<[usize; N]> for ComponentSet {
+    ghost from_gives = { MadeOf };
 
-    ghost bitor_gives = { λ a b r. r.bits ≡ bit_or a.bits b.bits };
+    /// The set of these numbers.
+    fn from(components: [usize; N]) -> Self {
+        let mut set = Self::empty();
+        for component in components {
+            set = set.with(component);
+        }
+        set
+    }
+}
 
-    fn bitor(self, rhs: ComponentSet) -> ComponentSet {
+impl IntoIterator for ComponentSet {
+    type Item = usize;
+
+    type IntoIter = Members;
+
+    ghost into_iter_gives = { λ s r. r.rest ≡ s };
+
+    fn into_iter(self) -> Members {
+        self.iter()
+    }
+}
+
+impl BitOr for ComponentSet {
+    type Output = Self;
+
+    ghost bitor_gives = { λ a b r. r ≡ bit_or a b };
+
+    fn bitor(self, rhs: Self) -> Self {
         self.union(rhs)
     }
 }
 
-impl BitAnd<ComponentSet> for ComponentSet {
-    type Output = ComponentSet;
+impl BitAnd for ComponentSet {
+    type Output = Self;
 
-    ghost bitand_gives = { λ a b r. r.bits ≡ bit_and a.bits b.bits };
+    ghost bitand_gives = { λ a b r. r ≡ bit_and a b };
 
-    fn bitand(self, rhs: ComponentSet) -> ComponentSet {
+    fn bitand(self, rhs: Self) -> Self {
         self.intersection(rhs)
     }
 }
 
-impl Sub<ComponentSet> for ComponentSet {
-    type Output = ComponentSet;
+impl Sub for ComponentSet {
+    type Output = Self;
 
-    ghost sub_gives = { λ a b r. r.bits ≡ minus a.bits b.bits };
+    ghost sub_gives = { λ a b r. r ≡ minus a b };
 
-    fn sub(self, rhs: ComponentSet) -> ComponentSet {
+    fn sub(self, rhs: Self) -> Self {
         self.difference(rhs)
     }
 }
@@ -196,13 +234,7 @@ impl Sub<ComponentSet> for ComponentSet {
 impl fmt::Debug for ComponentSet {
     /// The members between braces, as `{0, 3}`.
     fn fmt<W: fmt::Write>(&self, f: &mut fmt::Formatter<W>) -> fmt::Result {
-        f.write_str("{")?;
-        let mut gap = "";
-        for component in self.iter() {
-            write!(f, "{gap}{component}")?;
-            gap = ", ";
-        }
-        f.write_str("}")
+        f.debug_set().entries(self.iter()).finish()
     }
 }
 
@@ -215,9 +247,9 @@ pub struct Members {
 impl Iterator for Members {
     type Item = usize;
 
-    ghost next_gives = { λ s r t. MatchOption r (s.rest.bits ≡ 0) (λ i. (i < limit) × First s.rest.bits i × (t.rest.bits ≡ minus s.rest.bits (2 ^ i))) };
+    ghost next_gives = { λ s r t. MatchOption r (s.rest ≡ 0) (λ i. (i < limit) × First s.rest i × (t.rest ≡ minus s.rest (2 ^ i))) };
 
-    ghost remaining = { λ s. at_most (count_ones s.rest.bits) };
+    ghost remaining = { λ s. at_most (count_ones s.rest) };
 
     fn next(&mut self) -> Option<usize> {
         let component = self.rest.first()?;

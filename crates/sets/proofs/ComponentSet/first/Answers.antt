@@ -1,7 +1,0 @@
-use Rattle.std.proofs.Common.{arith}
-use Rattle.sets.specs.Limit.{limit}
-use Rattle.sets.proofs.Counts.{first_member}
-use Rattle.sets.proofs.ComponentSet.first.Goals as goal
-
-pub returns : goal.returns
-returns c = first_member limit c.args.self.bits (omega arith) (omega arith)

@@ -1,8 +1,0 @@
-use Rattle.std.proofs.Common.{refl}
-use Rattle.sets.specs.Sets.{within}
-use Rattle.sets.proofs.Order.{within_cases}
-use Rattle.sets.proofs.ComponentSet.is_subset.Goals as goal
-
-pub returns : goal.returns
-unfolding within
-returns c = record { value = refl; cases = within_cases c.args.self.bits c.args.other.bits }

@@ -18,7 +18,7 @@ impl Sheet {
 
     /// The components that are present.
     pub fn present(&self) -> ComponentSet
-        ensures { result.bits ≡ (model self.now).present }
+        ensures { result ≡ (model self.now).present }
     {
         self.present
     }

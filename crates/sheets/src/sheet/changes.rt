@@ -57,8 +57,8 @@ impl Sheet {
     /// A component conflicts with each of the others from now on, and each of them with it.
     /// No-component where one is not present, then self-clash where it is among the others.
     pub fn add_conflicts(&mut self, component: usize, others: ComponentSet) -> Result<(), Refusal>
-        ensures goes { Goes (conflicts_added (model self.old) component others.bits) tt result (model self.old) (model self.new) }
-        ensures both { OnOk result ((i j : ℕ) → has (conflicts_of (model self.new) i) j ≡ (has (conflicts_of (model self.old) i) j || ((i == component && has others.bits j) || (j == component && has others.bits i)))) }
+        ensures goes { Goes (conflicts_added (model self.old) component others) tt result (model self.old) (model self.new) }
+        ensures both { OnOk result ((i j : ℕ) → has (conflicts_of (model self.new) i) j ≡ (has (conflicts_of (model self.old) i) j || ((i == component && has others j) || (j == component && has others i)))) }
     {
         if !self.present.contains(component) || !others.is_subset(self.present) {
             return Err(Refusal::NoComponent);

@@ -10,7 +10,7 @@ invariant_of-self c =
     let s = c.args.self.now in
     let m = model s in
     let o : Has m.present c.args.clause.owner = search rules in
-    let d : within c.args.clause.members.bits m.present ≡ true = search rules in
+    let d : within c.args.clause.members m.present ≡ true = search rules in
     let lt : length m.clauses < max_clauses = search rules in
     let room : max_clauses ≤ vec_capacity c.push_reserved.new.self = search rules in
-    sealed _ (clause_formed m c.args.clause (formed s) o d lt) s.present.bits c.push_reserved.new.self s.conflicts refl (sym c.push_reserved.ensures.items) refl s.row_room room
+    sealed _ (clause_formed m c.args.clause (formed s) o d lt) s.present c.push_reserved.new.self s.conflicts refl (sym c.push_reserved.ensures.items) refl s.row_room room

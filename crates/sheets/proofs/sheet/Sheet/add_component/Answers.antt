@@ -13,7 +13,7 @@ invariant_of-self c =
     let lt : m.size < limit = search rules in
     let is = grown_parts m _ _ c.empty.result _ lt c.len-component.ensures c.with-self.ensures.value c.empty.ensures.value c.push_reserved.ensures.items in
     let room : limit ≤ vec_capacity c.push_reserved.new.self = search rules in
-    sealed (grown m) (grown_formed m (formed s) lt) c.with-self.result.bits s.clauses c.push_reserved.new.self is.0 refl is.1 room s.clause_room
+    sealed (grown m) (grown_formed m (formed s) lt) c.with-self.result s.clauses c.push_reserved.new.self is.0 refl is.1 room s.clause_room
 
 pub returns : goal.returns
 returns c =
@@ -22,4 +22,4 @@ returns c =
     let lt : m.size < limit = search rules in
     let is = grown_parts m _ _ c.empty.result _ lt c.len-component.ensures c.with-self.ensures.value c.empty.ensures.value c.push_reserved.ensures.items in
     let room = lt-ltb m.size limit lt in
-    rw room (ap Ok c.len-component.ensures, sym (same_model (grown m) (grown_formed m (formed s) lt) c.with-self.result.bits s.clauses c.push_reserved.new.self is.0 refl is.1))
+    rw room (ap Ok c.len-component.ensures, sym (same_model (grown m) (grown_formed m (formed s) lt) c.with-self.result s.clauses c.push_reserved.new.self is.0 refl is.1))

@@ -4,4 +4,4 @@ use Rattle.sheets.specs.Health.{is_clear}
 use Rattle.sheets.proofs.sheet.Sheet.clear_components.Given as goal
 
 abbrev pub invariant-loop-i : goal.invariant-loop-i
-invariant-loop-i l = l.clear.bits ≡ collect (is_clear l.self.present.bits l.conflicts-items) l.i
+invariant-loop-i l = l.clear ≡ collect (is_clear l.self.present l.conflicts-items) l.i

@@ -11,12 +11,12 @@ use Rattle.sheets.proofs.sheet.Sheet.is_healthy.Goals as goal
 pub returns-then-not-is_subset : goal.returns-then-not-is_subset
 returns-then-not-is_subset c =
     let b = c.if-not-is_subset.ensures.cases in
-    (λ e. absurd (false≢true e), λ h. absurd (both_ways (has c.args.self.now.present.bits b.at) b.outside (h.installation b.at b.inside)))
+    (λ e. absurd (false≢true e), λ h. absurd (both_ways (has c.args.self.now.present b.at) b.outside (h.installation b.at b.inside)))
 
 pub returns-then-intersects : goal.returns-then-intersects
 returns-then-intersects c =
     let m = model c.args.self.now in
-    let x = c.args.set.bits in
+    let x = c.args.set in
     let b = c.if-intersects.ensures.cases in
     (λ e. absurd (false≢true e), λ h. absurd (fed_apart m.clauses x x h.fed b.at b.one (ap (λ s. has s b.at) (sym c.unmet.ensures) ∙ b.other)))
 
@@ -24,7 +24,7 @@ pub returns : goal.returns
 returns c =
     let s = c.args.self.now in
     let m = model s in
-    let x = c.args.set.bits in
+    let x = c.args.set in
     let inside : Subset x m.present = c.if-not-is_subset.ensures.cases in
     let met : Apart x (unmet m.clauses x) = subst (Apart x) c.unmet.ensures c.if-intersects.ensures.cases in
     let quiet : (i j : ℕ) → Has x i → Has x j → Has (row m.conflicts i) j → ⊥ =

@@ -11,10 +11,10 @@ invariant_of-result c =
     let table = c.in_ok-conflicts.conflicts in
     let row_room : limit ≤ vec_capacity table = search rules in
     let clause_room : max_clauses ≤ vec_capacity cs = search rules in
-    sealed blank blank_formed c.empty.result.bits cs table (sym c.empty.ensures.value) (sym c.in_ok-clauses.ensures.items) (sym c.in_ok-conflicts.ensures.items) row_room clause_room
+    sealed blank blank_formed c.empty.result cs table (sym c.empty.ensures.value) (sym c.in_ok-clauses.ensures.items) (sym c.in_ok-conflicts.ensures.items) row_room clause_room
 
 pub returns : goal.returns
 returns c =
     let cs = c.in_ok-clauses.clauses in
     let table = c.in_ok-conflicts.conflicts in
-    sym (same_model blank blank_formed c.empty.result.bits cs table (sym c.empty.ensures.value) (sym c.in_ok-clauses.ensures.items) (sym c.in_ok-conflicts.ensures.items))
+    sym (same_model blank blank_formed c.empty.result cs table (sym c.empty.ensures.value) (sym c.in_ok-clauses.ensures.items) (sym c.in_ok-conflicts.ensures.items))

@@ -5,4 +5,4 @@ use Rattle.sheets.proofs.sheet.Sheet.unmet.Given as goal
 
 -- the unmet owners so far, and those of the clauses still to come
 abbrev pub invariant-loop-clause : goal.invariant-loop-clause
-invariant-loop-clause l = bit_or l.owners.bits (unmet (drop l.clause-index l.clause-items) l.set.bits) ≡ unmet l.clause-items l.set.bits
+invariant-loop-clause l = bit_or l.owners (unmet (drop l.clause-index l.clause-items) l.set) ≡ unmet l.clause-items l.set

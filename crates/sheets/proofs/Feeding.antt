@@ -1,62 +1,72 @@
 -- Which needs are met.
-use Rattle.std.proofs.Common.{◌≡◌, ℕ, ◌+◌, ◌^◌, ◌<◌, Bool, true, false, cond, ◌⊎◌, List, [], ◌∷◌, length, drop, sym, refl, ap, ◌∙◌, inl, inr}
-use lib.Bits.{bit_or}
+use Rattle.std.proofs.Common.{◌≡◌, ℕ, ◌+◌, ◌^◌, ◌<◌, Bool, true, false, cond, ◌⊎◌, List, [], ◌∷◌, length, get_or, drop, sym, refl, ap, ◌∙◌, inl, inr}
+use lib.Bits.{bit_or, or_zero_r}
 use Rattle.std.proofs.ByRecursion.{All-weaker}
 use Rattle.std.proofs.lemmas.List.{at_drop_more}
-use Rattle.std.proofs.lemmas.Bool.{cases_Bool, both_ways, eqb-true, eq-eqb, cond-false}
-use Rattle.sets.specs.Sets.{has, Has, Subset, Apart, Meet, meets}
-use Rattle.sets.proofs.Membership.{has_single, has_empty}
+use Rattle.std.proofs.lemmas.Bool.{cases_Bool, both_ways, eqb-true, eq-eqb, cond-true, cond-false}
+use Rattle.sets.specs.Limit.{limit}
+use Rattle.sets.specs.Sets.{has, Has, Subset, Apart, Meet, meets, with_member}
+use Rattle.sets.proofs.Membership.{has_single, has_empty, with_is}
 use Rattle.sets.proofs.Order.{decides_meet, not_meet, meet_more, in_or, sub_or_left, sub_or_right, or_assoc}
-use Rattle.sheets.specs.Clauses.{clause_at, no_clause}
 use Rattle.sheets.specs.Health.{Fed}
 use Rattle.sheets.specs.Support.{unmet}
 use Rattle.sheets.specs.declared.clause.Clause.{Clause}
 
 pub fed_more : (cs : List Clause) (w x y : ℕ) → Subset x y → Fed cs w x → Fed cs w y
-fed_more cs w x y s f = All-weaker _ (λ c. Has w c.owner → Meet c.members.bits y) (λ c g h. meet_more c.members.bits x y s (g h)) cs f
+fed_more cs w x y s f = All-weaker _ (λ c. Has w c.owner → Meet c.members y) (λ c g h. meet_more c.members x y s (g h)) cs f
 
 pub fed_fewer : (cs : List Clause) (v w x : ℕ) → Subset v w → Fed cs w x → Fed cs v x
-fed_fewer cs v w x s f = All-weaker _ (λ c. Has v c.owner → Meet c.members.bits x) (λ c g h. g (s c.owner h)) cs f
+fed_fewer cs v w x s f = All-weaker _ (λ c. Has v c.owner → Meet c.members x) (λ c g h. g (s c.owner h)) cs f
 
 -- what one clause adds to the unmet owners
-in_lacking : (c : Clause) (s i : ℕ) → Has (cond (meets c.members.bits s) 0 (2 ^ c.owner)) i → (meets c.members.bits s ≡ false) × (i ≡ c.owner)
-in_lacking c s i h = go (meets c.members.bits s) refl h
+in_lacking : (c : Clause) (s i : ℕ) → Has (cond (meets c.members s) 0 (2 ^ c.owner)) i → (meets c.members s ≡ false) × (i ≡ c.owner)
+in_lacking c s i h = go (meets c.members s) refl h
   where
-    go : (t : Bool) → meets c.members.bits s ≡ t → Has (cond t 0 (2 ^ c.owner)) i → (meets c.members.bits s ≡ false) × (i ≡ c.owner)
+    go : (t : Bool) → meets c.members s ≡ t → Has (cond t 0 (2 ^ c.owner)) i → (meets c.members s ≡ false) × (i ≡ c.owner)
     go true e h = absurd (both_ways (has 0 i) (has_empty i) h)
     go false e h = (e, eqb-true i c.owner (sym (has_single c.owner i) ∙ h))
 
-lacking_in : (c : Clause) (s : ℕ) → meets c.members.bits s ≡ false → Has (cond (meets c.members.bits s) 0 (2 ^ c.owner)) c.owner
-lacking_in c s e = ap (λ (x : ℕ). has x c.owner) (cond-false (meets c.members.bits s) 0 (2 ^ c.owner) e) ∙ has_single c.owner c.owner ∙ eq-eqb c.owner c.owner refl
+lacking_in : (c : Clause) (s : ℕ) → meets c.members s ≡ false → Has (cond (meets c.members s) 0 (2 ^ c.owner)) c.owner
+lacking_in c s e = ap (λ (x : ℕ). has x c.owner) (cond-false (meets c.members s) 0 (2 ^ c.owner) e) ∙ has_single c.owner c.owner ∙ eq-eqb c.owner c.owner refl
 
 -- every need of w is met in s exactly when w has no unmet owner
 pub fed_apart : (cs : List Clause) (w s : ℕ) → Fed cs w s → Apart w (unmet cs s)
 unfolding unmet
 fed_apart [] w s f i h u = both_ways (has 0 i) (has_empty i) u
-fed_apart (c ∷ cs) w s f i h u = go (fed_apart cs w s f.1 i h) (in_or (cond (meets c.members.bits s) 0 (2 ^ c.owner)) (unmet cs s) i u)
+fed_apart (c ∷ cs) w s f i h u = go (fed_apart cs w s f.1 i h) (in_or (cond (meets c.members s) 0 (2 ^ c.owner)) (unmet cs s) i u)
   where
-    go : (Has (unmet cs s) i → ⊥) → Has (cond (meets c.members.bits s) 0 (2 ^ c.owner)) i ⊎ Has (unmet cs s) i → ⊥
+    go : (Has (unmet cs s) i → ⊥) → Has (cond (meets c.members s) 0 (2 ^ c.owner)) i ⊎ Has (unmet cs s) i → ⊥
     go rest (inl here) =
         let l = in_lacking c s i here in
         let m = f.0 (ap (has w) (sym l.1) ∙ h) in
-        not_meet c.members.bits s l.0 m.at m.one m.other
+        not_meet c.members s l.0 m.at m.one m.other
     go rest (inr later) = rest later
 
 pub apart_fed : (cs : List Clause) (w s : ℕ) → Apart w (unmet cs s) → Fed cs w s
 unfolding unmet
 apart_fed [] w s a = tt
 apart_fed (c ∷ cs) w s a = (
-  λ h. elim (cases_Bool (meets c.members.bits s)) [
-    | inl e ↦ (decides_meet c.members.bits s).0 e
-    | inr e ↦ absurd (a c.owner h (sub_or_left (cond (meets c.members.bits s) 0 (2 ^ c.owner)) (unmet cs s) c.owner (lacking_in c s e)))
+  λ h. elim (cases_Bool (meets c.members s)) [
+    | inl e ↦ (decides_meet c.members s).0 e
+    | inr e ↦ absurd (a c.owner h (sub_or_left (cond (meets c.members s) 0 (2 ^ c.owner)) (unmet cs s) c.owner (lacking_in c s e)))
   ],
-  apart_fed cs w s (λ i h u. a i h (sub_or_right (cond (meets c.members.bits s) 0 (2 ^ c.owner)) (unmet cs s) i u)),
+  apart_fed cs w s (λ i h u. a i h (sub_or_right (cond (meets c.members s) 0 (2 ^ c.owner)) (unmet cs s) i u)),
 )
 
--- one turn of the loop that collects the unmet owners: the clause at i, and those after it
-pub unmet_more : (cs : List Clause) (s i got : ℕ) → i < length cs
-    → bit_or got (unmet (drop i cs) s) ≡ bit_or (bit_or got (cond (meets (clause_at cs i).members.bits s) 0 (2 ^ (clause_at cs i).owner))) (unmet (drop (i + 1) cs) s)
-unfolding unmet
-unmet_more cs s i got lt =
-    ap (bit_or got) (at_drop_more (λ ds. unmet ds s) cs i no_clause lt)
-    ∙ sym (or_assoc got (cond (meets (clause_at cs i).members.bits s) 0 (2 ^ (clause_at cs i).owner)) (unmet (drop (i + 1) cs) s))
+-- one turn of the loop that collects the unmet owners: the clause at i adds its owner where no member is in s
+module _ (cs : List Clause) (s i got : ℕ) (c : Clause) (lt : i < length cs) (is : c ≡ get_or cs i c) where
+  pub unmet_turn : bit_or (bit_or got (cond (meets c.members s) 0 (2 ^ c.owner))) (unmet (drop (i + 1) cs) s) ≡ bit_or got (unmet (drop i cs) s)
+  unfolding unmet
+  unmet_turn =
+      let later : ℕ = unmet (drop (i + 1) cs) s in
+      or_assoc got (cond (meets c.members s) 0 (2 ^ c.owner)) later
+      ∙ ap (λ (d : Clause). bit_or got (bit_or (cond (meets d.members s) 0 (2 ^ d.owner)) later)) is
+      ∙ sym (ap (bit_or got) (at_drop_more (λ ds. unmet ds s) cs i c lt))
+
+  pub turn_met : meets c.members s ≡ true → bit_or got (unmet (drop (i + 1) cs) s) ≡ bit_or got (unmet (drop i cs) s)
+  turn_met e =
+      ap (λ n. bit_or n (unmet (drop (i + 1) cs) s)) (sym (or_zero_r got) ∙ ap (bit_or got) (sym (cond-true (meets c.members s) 0 (2 ^ c.owner) e))) ∙ unmet_turn
+
+  pub turn_unmet : meets c.members s ≡ false → c.owner < limit → bit_or (with_member got c.owner) (unmet (drop (i + 1) cs) s) ≡ bit_or got (unmet (drop i cs) s)
+  turn_unmet e small =
+      ap (λ n. bit_or n (unmet (drop (i + 1) cs) s)) (sym (with_is got c.owner small) ∙ ap (bit_or got) (sym (cond-false (meets c.members s) 0 (2 ^ c.owner) e))) ∙ unmet_turn

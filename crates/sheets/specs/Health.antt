@@ -2,7 +2,6 @@
 use Rattle.std.specs.Prelude.{ℕ, ◌^◌, Bool, ◌&&◌, List, ◌==◌}
 use Rattle.std.specs.List.{AllByRecursion}
 use Rattle.sets.specs.Sets.{has, Has, Subset, Meet, collect}
-use Rattle.sets.specs.declared.ComponentSet.{ComponentSet}
 use Rattle.sheets.specs.Clauses.{row}
 use Rattle.sheets.specs.declared.clause.Clause.{Clause}
 use Rattle.sheets.specs.Sheets.{SheetModel, conflicts_of}
@@ -13,7 +12,7 @@ Installation m x = Subset x m.present
 
 -- each clause that a component of w owns has a member in x
 abbrev pub Fed : List Clause → ℕ → ℕ → Type 0
-Fed cs w x = AllByRecursion (λ c. Has w c.owner → Meet c.members.bits x) cs
+Fed cs w x = AllByRecursion (λ c. Has w c.owner → Meet c.members x) cs
 
 -- an installation in which every need is met and no two components conflict
 pub record Healthy (m : SheetModel) (x : ℕ) : Type 0 where
@@ -32,7 +31,7 @@ abbrev pub Broken : SheetModel → ℕ → Type 0
 Broken m i = Has m.present i × (Coinstallable m (2 ^ i) → ⊥)
 
 -- whether i is present and conflicts with none
-abbrev pub is_clear : ℕ → List ComponentSet → ℕ → Bool
+abbrev pub is_clear : ℕ → List ℕ → ℕ → Bool
 is_clear present table i = has present i && row table i == 0
 
 -- the clear components

@@ -1,12 +1,11 @@
 -- What a sheet says: its model.
-use Rattle.std.specs.Prelude.{◌≡◌, ℕ, ◌^◌, ◌<◌, ◌≤◌, cond, List, length, Ok, Err, vec_items, Result, nat_lt, slice_index_or}
+use Rattle.std.specs.Prelude.{◌≡◌, ℕ, ◌^◌, ◌<◌, ◌≤◌, cond, List, length, Ok, Err, vec_items, vec_len, Result, nat_lt}
 use Rattle.sets.specs.Limit.{limit}
 use Rattle.sets.specs.Sets.{has}
-use Rattle.sets.specs.declared.ComponentSet.{ComponentSet}
 use Rattle.refusals.specs.declared.Refusal.{Refusal}
 use Rattle.refusals.specs.declared.Refusal.TheVariants.{NoClause, NoComponent}
 use Rattle.sheets.specs.Limits.{max_clauses}
-use Rattle.sheets.specs.Clauses.{clause_at, row, no_set, Owned, Known, Among, Mutual, Irreflexive}
+use Rattle.sheets.specs.Clauses.{clause_at, row, Owned, Known, Among, Mutual, Irreflexive}
 use Rattle.sheets.specs.declared.clause.Clause.{Clause}
 use Rattle.sheets.specs.declared.sheet.Sheet.{Sheet}
 
@@ -15,10 +14,10 @@ pub record SheetModel : Type 0 where
   pub size : ℕ
   pub present : ℕ
   pub clauses : List Clause
-  pub conflicts : List ComponentSet
+  pub conflicts : List ℕ
 
 abbrev pub model : Sheet → SheetModel
-model s = record { size = s.size; present = s.present.bits; clauses = vec_items s.clauses; conflicts = vec_items s.conflicts }
+model s = record { size = vec_len s.conflicts; present = s.present; clauses = vec_items s.clauses; conflicts = vec_items s.conflicts }
 
 -- the components that i conflicts with
 abbrev pub conflicts_of : SheetModel → ℕ → ℕ
@@ -41,5 +40,5 @@ abbrev pub found : {X : Type 0} → SheetModel → (Clause → X) → ℕ → Re
 found m f k = cond (nat_lt k (length m.clauses)) (Ok (f (clause_at m.clauses k))) (Err NoClause)
 
 -- what the look-up of a component's conflict set answers
-abbrev pub opponents : SheetModel → ℕ → Result ComponentSet Refusal
-opponents m i = cond (has m.present i) (Ok (slice_index_or m.conflicts i no_set)) (Err NoComponent)
+abbrev pub opponents : SheetModel → ℕ → Result ℕ Refusal
+opponents m i = cond (has m.present i) (Ok (conflicts_of m i)) (Err NoComponent)

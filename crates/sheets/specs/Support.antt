@@ -18,7 +18,7 @@ pub record Supported (m : SheetModel) (x q : ℕ) : Type 0 where
 -- the owners of the clauses that have no member in s
 unfoldable pub unmet : List Clause → ℕ → ℕ
 unmet [] s = 0
-unmet (c ∷ cs) s = bit_or (cond (meets c.members.bits s) 0 (2 ^ c.owner)) (unmet cs s)
+unmet (c ∷ cs) s = bit_or (cond (meets c.members s) 0 (2 ^ c.owner)) (unmet cs s)
 
 -- q without the components that own a clause with no member in x or q
 unfoldable pub narrowed : List Clause → ℕ → ℕ → ℕ

@@ -1,4 +1,4 @@
-ghost use Rattle.std.specs.Prelude.{◌≡◌, ◌^◌, ◌<◌, ◌≤◌, vec_len, vec_capacity};
+ghost use Rattle.std.specs.Prelude.{◌^◌, ◌<◌, ◌≤◌, vec_len, vec_capacity};
 ghost use Rattle.sets.specs.Limit.{limit};
 ghost use Rattle.sheets.specs.Limits.{max_clauses};
 ghost use Rattle.sheets.specs.Clauses.{Owned, Known, Among, Mutual, Irreflexive};
@@ -13,21 +13,19 @@ mod health;
 /// Components, what each needs and what it conflicts with.
 ///
 /// Room for every component and clause that a sheet may have is taken when it is made, so no later change asks for memory.
-#[derive(Drop)]
+#[derive(Debug, Drop)]
 pub struct Sheet {
-    size: usize,
     present: ComponentSet,
     clauses: Vec<Clause>,
     conflicts: Vec<ComponentSet>,
-    ghost small: { size ≤ limit },
-    ghost bounded: { present.bits < 2 ^ size },
-    ghost rows: { vec_len conflicts ≡ size },
+    ghost small: { vec_len conflicts ≤ limit },
+    ghost bounded: { present < 2 ^ vec_len conflicts },
     ghost row_room: { limit ≤ vec_capacity conflicts },
     ghost few: { vec_len clauses ≤ max_clauses },
     ghost clause_room: { max_clauses ≤ vec_capacity clauses },
-    ghost owned: { Owned present.bits clauses.items },
-    ghost known: { Known present.bits clauses.items },
-    ghost among: { Among present.bits conflicts.items },
+    ghost owned: { Owned present clauses.items },
+    ghost known: { Known present clauses.items },
+    ghost among: { Among present conflicts.items },
     ghost mutual: { Mutual conflicts.items },
     ghost irreflexive: { Irreflexive conflicts.items },
 }

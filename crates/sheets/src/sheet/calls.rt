@@ -13,12 +13,12 @@ impl Sheet {
         ensures value { result ≡ (model self.now).size }
         ensures formed { Formed (model self.now) }
     {
-        self.size
+        self.conflicts.len()
     }
 
     /// The components that are present.
     pub fn present(&self) -> ComponentSet
-        ensures { result.bits ≡ (model self.now).present }
+        ensures { result ≡ (model self.now).present }
     {
         self.present
     }
@@ -37,24 +37,25 @@ impl Sheet {
         self.clauses.len()
     }
 
+    /// The clause at a place, or no-clause.
+    fn clause(&self, place: usize) -> Result<Clause, Refusal>
+        ensures { result ≡ found (model self.now) (λ c. c) place }
+    {
+        self.clauses.get(place).copied().ok_or(Refusal::NoClause)
+    }
+
     /// The owner of the clause at a place, or no-clause.
     pub fn owner(&self, place: usize) -> Result<usize, Refusal>
         ensures { result ≡ found (model self.now) (λ c. c.owner) place }
     {
-        if place < self.clauses.len() {
-            return Ok(self.clauses[place].owner);
-        }
-        Err(Refusal::NoClause)
+        self.clause(place).map(|clause| clause.owner)
     }
 
     /// The members of the clause at a place, or no-clause.
     pub fn members(&self, place: usize) -> Result<ComponentSet, Refusal>
         ensures { result ≡ found (model self.now) (λ c. c.members) place }
     {
-        if place < self.clauses.len() {
-            return Ok(self.clauses[place].members);
-        }
-        Err(Refusal::NoClause)
+        self.clause(place).map(|clause| clause.members)
     }
 
     /// What a component conflicts with, or no-component.

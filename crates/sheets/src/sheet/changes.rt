@@ -21,24 +21,7 @@ impl Sheet {
         let clauses = Vec::with_capacity(heap, Self::MAX_CLAUSES)?;
         let conflicts = Vec::with_capacity(heap, ComponentSet::LIMIT)?;
         Ok(Sheet {
-            size: 0,
             present: ComponentSet::empty(),
-            clauses,
-            conflicts,
-        })
-    }
-
-    /// The same sheet once more, with the same room.
-    pub fn copy(&self, heap: Global) -> Result<Sheet, AllocError>
-        ensures { IfOk result (λ s. model s ≡ model self.now) }
-    {
-        let mut clauses = Vec::with_capacity(heap, Self::MAX_CLAUSES)?;
-        clauses.extend_from_slice(self.clauses.as_slice())?;
-        let mut conflicts = Vec::with_capacity(heap, ComponentSet::LIMIT)?;
-        conflicts.extend_from_slice(self.conflicts.as_slice())?;
-        Ok(Sheet {
-            size: self.size,
-            present: self.present,
             clauses,
             conflicts,
         })
@@ -48,13 +31,12 @@ impl Sheet {
     pub fn add_component(&mut self) -> Result<usize, Refusal>
         ensures { Goes (component_added (model self.old)) (model self.old).size result (model self.old) (model self.new) }
     {
-        let component = self.size;
+        let component = self.conflicts.len();
         if component >= ComponentSet::LIMIT {
             return Err(Refusal::TooMany);
         }
         self.conflicts.push_reserved(ComponentSet::empty());
         self.present = self.present.with(component);
-        self.size = component + 1;
         Ok(component)
     }
 
@@ -75,8 +57,8 @@ impl Sheet {
     /// A component conflicts with each of the others from now on, and each of them with it.
     /// No-component where one is not present, then self-clash where it is among the others.
     pub fn add_conflicts(&mut self, component: usize, others: ComponentSet) -> Result<(), Refusal>
-        ensures goes { Goes (conflicts_added (model self.old) component others.bits) tt result (model self.old) (model self.new) }
-        ensures both { OnOk result ((i j : ℕ) → has (conflicts_of (model self.new) i) j ≡ (has (conflicts_of (model self.old) i) j || ((i == component && has others.bits j) || (j == component && has others.bits i)))) }
+        ensures goes { Goes (conflicts_added (model self.old) component others) tt result (model self.old) (model self.new) }
+        ensures both { OnOk result ((i j : ℕ) → has (conflicts_of (model self.new) i) j ≡ (has (conflicts_of (model self.old) i) j || ((i == component && has others j) || (j == component && has others i)))) }
     {
         if !self.present.contains(component) || !others.is_subset(self.present) {
             return Err(Refusal::NoComponent);
@@ -84,34 +66,31 @@ impl Sheet {
         if others.contains(component) {
             return Err(Refusal::SelfClash);
         }
-        oppose(self.conflicts.as_mut_slice(), component, others);
+        for (i, conflicts) in self.conflicts.iter_mut().enumerate() {
+            if i == component {
+                *conflicts = *conflicts | others;
+            } else if others.contains(i) {
+                *conflicts = conflicts.with(component);
+            }
+        }
         Ok(())
     }
 }
 
-/// The conflict set of component `i`, once `component` conflicts with the others.
-fn opposed_set(
-    conflicts: ComponentSet,
-    component: usize,
-    others: ComponentSet,
-    i: usize,
-) -> ComponentSet
-    ensures { result.bits ≡ opposed_set conflicts.bits component others.bits i }
-{
-    if i == component {
-        conflicts | others
-    } else if others.contains(i) {
-        conflicts.with(component)
-    } else {
-        conflicts
-    }
-}
+impl Clone for Sheet {
+    ghost is_clone = { λ s t. model t ≡ model s };
 
-/// Turns each conflict set of a table into the one with the new conflicts.
-fn oppose(table: &mut [ComponentSet], component: usize, others: ComponentSet)
-    ensures { table.new ≡ opposed table.old component others.bits }
-{
-    for i in 0..table.len() {
-        table[i] = opposed_set(table[i], component, others, i);
+    /// The same sheet once more, with the same room.
+    fn clone(&self) -> Result<Sheet, AllocError> {
+        let heap = *self.clauses.allocator();
+        let mut clauses = Vec::with_capacity(heap, Self::MAX_CLAUSES)?;
+        clauses.extend_from_slice(self.clauses.as_slice())?;
+        let mut conflicts = Vec::with_capacity(heap, ComponentSet::LIMIT)?;
+        conflicts.extend_from_slice(self.conflicts.as_slice())?;
+        Ok(Sheet {
+            present: self.present,
+            clauses,
+            conflicts,
+        })
     }
 }

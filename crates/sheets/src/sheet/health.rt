@@ -15,7 +15,7 @@ use sets::ComponentSet;
 impl Sheet {
     /// Whether a set is a healthy installation: all present, every need met, and no conflict.
     pub fn is_healthy(&self, set: ComponentSet) -> bool
-        ensures { Decides result (Healthy (model self.now) set.bits) }
+        ensures { Decides result (Healthy (model self.now) set) }
     {
         if !set.is_subset(self.present) {
             return false;
@@ -23,22 +23,33 @@ impl Sheet {
         if set.intersects(self.unmet(set)) {
             return false;
         }
-        is_quiet(self.conflicts.as_slice(), set)
+        for (i, conflicts) in self.conflicts.iter().enumerate() {
+            if set.contains(i) && set.intersects(*conflicts) {
+                return false;
+            }
+        }
+        true
     }
 
     /// The components that conflict with none.
     pub fn clear_components(&self) -> ComponentSet
-        ensures value { result.bits ≡ clear (model self.now) }
-        ensures members { (i : ℕ) → has result.bits i ≡ is_clear (model self.now).present (model self.now).conflicts i }
+        ensures value { result ≡ clear (model self.now) }
+        ensures members { (i : ℕ) → has result i ≡ is_clear (model self.now).present (model self.now).conflicts i }
     {
-        clear_of(self.present, self.conflicts.as_slice())
+        let mut clear = ComponentSet::empty();
+        for (i, conflicts) in self.conflicts.iter().enumerate() {
+            if self.present.contains(i) && conflicts.is_empty() {
+                clear = clear.with(i);
+            }
+        }
+        clear
     }
 
     /// The support of a set: the greatest set of clear components each of whose needs is met by the set or by itself.
     pub fn support(&self, set: ComponentSet) -> ComponentSet
-        ensures value { result.bits ≡ support (model self.now) set.bits }
-        ensures closed { Supported (model self.now) set.bits result.bits }
-        ensures greatest { (q : ℕ) → Supported (model self.now) set.bits q → Subset q result.bits }
+        ensures value { result ≡ support (model self.now) set }
+        ensures closed { Supported (model self.now) set result }
+        ensures greatest { (q : ℕ) → Supported (model self.now) set q → Subset q result }
     {
         let mut supported = self.clear_components();
         loop {
@@ -52,8 +63,8 @@ impl Sheet {
 
     /// The free set: what the empty set supports. Components that need only one another are free where none of them conflicts.
     pub fn free_set(&self) -> ComponentSet
-        ensures value { result.bits ≡ free (model self.now) }
-        ensures rings { (q : ℕ) → Subset q (clear (model self.now)) → Fed (model self.now).clauses q q → Subset q result.bits }
+        ensures value { result ≡ free (model self.now) }
+        ensures rings { (q : ℕ) → Subset q (clear (model self.now)) → Fed (model self.now).clauses q q → Subset q result }
         ensures examples { Examples }
     {
         self.support(ComponentSet::empty())
@@ -61,55 +72,21 @@ impl Sheet {
 
     /// The owners of the clauses that have no member in a set.
     fn unmet(&self, set: ComponentSet) -> ComponentSet
-        ensures { result.bits ≡ unmet (model self.now).clauses set.bits }
+        ensures { result ≡ unmet (model self.now).clauses set }
     {
-        unmet_owners(self.clauses.as_slice(), set)
+        let mut owners = ComponentSet::empty();
+        for clause in &self.clauses {
+            if !clause.members.intersects(set) {
+                owners = owners.with(clause.owner);
+            }
+        }
+        owners
     }
 
     /// The candidates each of whose needs is met by the set or by the candidates.
     fn narrowed(&self, set: ComponentSet, candidates: ComponentSet) -> ComponentSet
-        ensures { result.bits ≡ narrowed (model self.now).clauses set.bits candidates.bits }
+        ensures { result ≡ narrowed (model self.now).clauses set candidates }
     {
         candidates - self.unmet(set | candidates)
     }
-}
-
-/// The owners of the clauses that have no member in a set.
-fn unmet_owners(clauses: &[Clause], set: ComponentSet) -> ComponentSet
-    requires { (k : ℕ) → k < length clauses.now → (clause_at clauses.now k).owner < limit }
-    ensures { result.bits ≡ unmet clauses.now set.bits }
-{
-    let mut owners = ComponentSet::empty();
-    for clause in clauses {
-        if !clause.members.intersects(set) {
-            owners = owners.with(clause.owner);
-        }
-    }
-    owners
-}
-
-/// Whether no two components of a set conflict.
-fn is_quiet(table: &[ComponentSet], set: ComponentSet) -> bool
-    ensures { Decides result ((i : ℕ) → i < length table.now → Has set.bits i → Apart set.bits (row table.now i)) }
-{
-    for (i, conflicts) in table.iter().enumerate() {
-        if set.contains(i) && set.intersects(*conflicts) {
-            return false;
-        }
-    }
-    true
-}
-
-/// The present components that conflict with none.
-fn clear_of(present: ComponentSet, table: &[ComponentSet]) -> ComponentSet
-    requires { length table.now ≤ limit }
-    ensures { result.bits ≡ collect (is_clear present.bits table.now) (length table.now) }
-{
-    let mut clear = ComponentSet::empty();
-    for (i, conflicts) in table.iter().enumerate() {
-        if present.contains(i) && conflicts.is_empty() {
-            clear = clear.with(i);
-        }
-    }
-    clear
 }

@@ -13,7 +13,7 @@ pub returns : goal.returns
 unfolding free
 returns c =
     let m = model c.args.self.now in
-    let is : c.support.result.bits ≡ free m = c.support.ensures.value ∙ ap (support m) c.empty.ensures.value in
+    let is : c.support.result ≡ free m = c.support.ensures.value ∙ ap (support m) c.empty.ensures.value in
     record {
       value = is;
       rings = λ q l f. subst (Subset q) (sym is) (support_greatest m 0 q (record { clears = l; closed = fed_more m.clauses q q (bit_or 0 q) (sub_or_right 0 q) f }));

@@ -6,4 +6,4 @@ use Rattle.sheets.proofs.sheet.Sheet.narrowed.Goals as goal
 
 pub returns : goal.returns
 unfolding narrowed
-returns c = c.sub.ensures ∙ ap (minus c.args.candidates.bits) (c.unmet.ensures ∙ ap (unmet (model c.args.self.now).clauses) c.bitor.ensures)
+returns c = c.sub.ensures ∙ ap (minus c.args.candidates) (c.unmet.ensures ∙ ap (unmet (model c.args.self.now).clauses) c.bitor.ensures)

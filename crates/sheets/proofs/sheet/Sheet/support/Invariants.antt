@@ -6,7 +6,7 @@ use Rattle.sheets.proofs.sheet.Sheet.support.Given as goal
 
 -- what is left are clear components, and holds the support
 abbrev pub invariant-loop-set : goal.invariant-loop-set
-invariant-loop-set l = Subset l.supported.bits (clear (model l.self)) × Subset (support (model l.self) l.set.bits) l.supported.bits
+invariant-loop-set l = Subset l.supported (clear (model l.self)) × Subset (support (model l.self) l.set) l.supported
 
 abbrev pub decreases-loop-set : goal.decreases-loop-set
-decreases-loop-set l = l.supported.bits
+decreases-loop-set l = l.supported

@@ -1,7 +1,0 @@
-use Rattle.std.proofs.Common.{ℕ, ◌<◌}
-use Rattle.sets.specs.Sets.{Has, Apart}
-use Rattle.sheets.specs.Clauses.{row}
-use Rattle.sheets.proofs.sheet.health.is_quiet.Given as goal
-
-abbrev pub invariant-loop-i : goal.invariant-loop-i
-invariant-loop-i l = (i : ℕ) → i < l.i → Has l.set.bits i → Apart l.set.bits (row l.table i)

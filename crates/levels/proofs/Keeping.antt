@@ -105,12 +105,12 @@ run_more p (d ∷ cs) c = run_more (after p d) cs c
 pub made_alone : (s : SheetModel) → Formed s → Made (ground s)
 made_alone s w = record { from = s; formed = w; calls = []; is = refl }
 
-pub made_after : (p : PileModel) (c : Call) → Made p → Made (after p c)
-made_after p c m = record {
+pub made_after : (p q : PileModel) (c : Call) → Made p → q ≡ after p c → Made q
+made_after p q c m is = record {
   from = m.from;
   formed = m.formed;
   calls = m.calls ++ c ∷ [];
-  is = ap (λ q. after q c) m.is ∙ sym (run_more (ground m.from) m.calls c);
+  is = is ∙ ap (λ q. after q c) m.is ∙ sym (run_more (ground m.from) m.calls c);
 }
 
 pub made_keeps : (p : PileModel) → Made p → Throughout (Faithful (base p)) p
@@ -138,19 +138,3 @@ sound_from r keeps begins starts steps sweeps gives = record { starts = begins; 
         go (Ok n) e k = steps b o n u v w k e
         go (Err x) e k = k
     kept b w (swept {o} m) = sweeps b o w (kept b w m)
-
--- ---- what a call of a reduction makes of the pile that it tops: p before, q after, over b
-
-goes_settled : (q : Result Own Refusal) (a : Result (Unit {0}) Refusal) (old new : Own) → Goes q tt a old new → new ≡ settled old q
-goes_settled (Ok n) a old new h = h.1
-goes_settled (Err e) a old new h = h.1
-
-pub raise_is : (q b c : PileModel) (r : Rules) (o : Own) → q ≡ raised c r (own q) → c ≡ b → own q ≡ o → q ≡ raised b r o
-raise_is q b c r o is e f = is ∙ ap (λ x. raised x r (own q)) e ∙ ap (raised b r) f
-
-module _ (p q b : PileModel) (r : Rules) (before : p ≡ raised b r (own p)) (behind : q ≡ raised b r (own q)) where
-  pub step_is : (u v : ℕ) (a : Result (Unit {0}) Refusal) → Goes (r.moved (top b) (own p) u v) tt a (own p) (own q) → q ≡ after_step p u v
-  step_is u v a h = behind ∙ ap (raised b r) (goes_settled (r.moved (top b) (own p) u v) a (own p) (own q) h) ∙ ap (λ x. after_step x u v) (sym before)
-
-  pub sweep_is : own q ≡ (r.swept (top b) (own p)).left → q ≡ after_sweep p
-  sweep_is h = behind ∙ ap (raised b r) h ∙ ap after_sweep (sym before)

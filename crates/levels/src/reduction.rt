@@ -6,7 +6,7 @@ ghost use Rattle.levels.specs.Laws.{Law};
 
 use crate::level::Level;
 use refusals::Refusal;
-use std::alloc::{AllocError, Global};
+use std::alloc::{AllocFailed, Global};
 
 /// A level made from the one below it, which it takes in and lends only for reading, and altered by steps and a sweep.
 ///
@@ -25,8 +25,8 @@ pub trait Reduction: Level + Sized {
     ghost keeps: { SheetModel → Own → Type 0 };
 
     /// The reduction over a level; where memory runs out, the level is given back.
-    fn over(below: Self::Below, heap: Global) -> Result<Self, (Self::Below, AllocError)>
-        ensures { MatchResult result (λ x. (under x ≡ below) × (own (Self.Level.pile x) ≡ rules.start (top (Self.Below.Level.pile below)))) (λ e. e.0 ≡ below) };
+    fn over(below: Self::Below, heap: Global) -> Result<Self, AllocFailed<Self::Below>>
+        ensures { MatchResult result (λ x. (under x ≡ below) × (own (Self.Level.pile x) ≡ rules.start (top (Self.Below.Level.pile below)))) (λ e. e.value ≡ below) };
 
     /// The level below, for reading.
     fn below(&self) -> &Self::Below

@@ -1,14 +1,14 @@
 -- Levels that keep faith, one over the other, and runs of calls.
 use Rattle.std.proofs.Common.{◌≡◌, ℕ, List, [], ◌∷◌, ◌++◌, Ok, Err, Result, sym, refl, ap, ◌∙◌, subst}
+use Rattle.std.proofs.lemmas.List.Sums.{fold-append}
 use Rattle.refusals.specs.declared.Refusal.{Refusal}
 use Rattle.sets.specs.Sets.{Has, Subset}
 use Rattle.sheets.specs.Sheets.{SheetModel, Formed}
-use Rattle.sheets.specs.Changes.{Goes}
 use Rattle.sheets.specs.Health.{Coinstallable}
 use Rattle.sheets.proofs.Forms.{present_below}
-use Rattle.levels.specs.Piles.{Own, Rules, PileModel, ground, raised, top, base, image, lift, own, image_set}
+use Rattle.levels.specs.Piles.{Own, Rules, PileModel, ground, raised, top, base, image, lift, image_set}
 use Rattle.levels.specs.Laws.{Keeps, Law, Sound, Reached, started, stepped, swept, settled}
-use Rattle.levels.specs.Runs.{Call, raise, step, sweep, read, after, after_step, after_sweep, run, Faithful, Throughout, MainLaw, Made}
+use Rattle.levels.specs.Runs.{Call, raise, step, sweep, read, after, run, Faithful, Throughout, MainLaw, Made}
 use Rattle.levels.proofs.Images.{image_from, image_again, image_same}
 
 -- ---- composition
@@ -40,7 +40,7 @@ keeps_over a b c f g f' g' w k l = record {
     again x s = image_again f f' a.size b.size x (λ i lt h. present_below b w (f i) (k.images i (s i h)))
 
     inside : (x : ℕ) → Subset x a.present → Subset (image_set f a.size x) b.present
-    inside x s j h = let r = image_from f a.size x j h in subst (λ n. Has b.present n) r.is (k.images r.at (s r.at r.inside))
+    inside x s j h = let r = image_from f a.size x j h in subst (Has b.present) r.is (k.images r.at (s r.at r.inside))
 
 -- ---- piles whose every reduction keeps its law
 
@@ -52,20 +52,13 @@ pub formed_top : (p : PileModel) → Sturdy p → Formed (top p)
 formed_top _ (lone s w) = w
 formed_top _ (more p r o h s m) = (s.lawful (top p) (formed_top p h) o m).formed
 
-pub formed_base : (p : PileModel) → Sturdy p → Formed (base p)
-formed_base _ (lone s w) = w
-formed_base _ (more p r o h s m) = formed_base p h
-
 pub faithful : (p : PileModel) → Sturdy p → Keeps (base p) (top p) (image p) (lift p)
 faithful _ (lone s w) = keeps_itself s w
 faithful _ (more p r o h s m) = keeps_over (base p) (top p) o.sheet (image p) (lift p) o.image o.lift (formed_top p h) (faithful p h) (s.lawful (top p) (formed_top p h) o m).keeps
 
-pub throughout : (s : SheetModel) (p : PileModel) → base p ≡ s → Sturdy p → Throughout (Faithful s) p
-throughout s _ e (lone t w) = record { grounded = e; keeps = subst (λ g. Keeps g t (λ i. i) (λ x. x)) e (keeps_itself t w) }
-throughout s _ e (more p r o h d m) = (
-  throughout s p e h,
-  record { grounded = e; keeps = subst (λ g. Keeps g o.sheet (image (raised p r o)) (lift (raised p r o))) e (faithful (raised p r o) (more p r o h d m)) },
-)
+pub throughout : (p : PileModel) → Sturdy p → Throughout (Faithful (base p)) p
+throughout _ (lone s w) = record { grounded = refl; keeps = keeps_itself s w }
+throughout _ (more p r o h s m) = (throughout p h, record { grounded = refl; keeps = faithful (raised p r o) (more p r o h s m) })
 
 -- ---- runs
 
@@ -94,30 +87,19 @@ base_run p [] = refl
 base_run p (c ∷ cs) = base_run (after p c) cs ∙ base_after p c
 
 pub main_law : MainLaw
-main_law s w cs = throughout s (run (ground s) cs) (base_run (ground s) cs) (sturdy_run (ground s) cs (lone s w))
+main_law s w cs = subst (λ g. Throughout (Faithful g) (run (ground s) cs)) (base_run (ground s) cs) (throughout (run (ground s) cs) (sturdy_run (ground s) cs (lone s w)))
 
--- ---- one call more
-
-run_more : (p : PileModel) (cs : List Call) (c : Call) → run p (cs ++ c ∷ []) ≡ after (run p cs) c
-run_more p [] c = refl
-run_more p (d ∷ cs) c = run_more (after p d) cs c
-
-pub made_alone : (s : SheetModel) → Formed s → Made (ground s)
-made_alone s w = record { from = s; formed = w; calls = []; is = refl }
-
+-- one call more
 pub made_after : (p q : PileModel) (c : Call) → Made p → q ≡ after p c → Made q
 made_after p q c m is = record {
   from = m.from;
   formed = m.formed;
   calls = m.calls ++ c ∷ [];
-  is = is ∙ ap (λ q. after q c) m.is ∙ sym (run_more (ground m.from) m.calls c);
+  is = is ∙ ap (λ q. after q c) m.is ∙ sym (fold-append after (ground m.from) m.calls (c ∷ []));
 }
 
 pub made_keeps : (p : PileModel) → Made p → Throughout (Faithful (base p)) p
-made_keeps p m =
-    let here : base p ≡ m.from = ap base m.is ∙ base_run (ground m.from) m.calls in
-    subst (λ q. Throughout (Faithful (base q)) q) (sym m.is)
-    (subst (λ s. Throughout (Faithful s) (run (ground m.from) m.calls)) (sym (base_run (ground m.from) m.calls)) (main_law m.from m.formed m.calls))
+made_keeps p m = throughout p (subst Sturdy (sym m.is) (sturdy_run (ground m.from) m.calls (lone m.from m.formed)))
 
 -- ---- from an invariant of its own a reduction has its law
 

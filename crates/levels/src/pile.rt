@@ -80,7 +80,11 @@ impl fmt::Display for KernelSize {
     ghost output = { λ k. Some (kernel_line k) };
 
     fn fmt<W: fmt::Write>(&self, f: &mut fmt::Formatter<W>) -> fmt::Result {
-        write!(f, "(kernel {} {} {})", self.ground, self.components, self.clauses)
+        write!(
+            f,
+            "(kernel {} {} {})",
+            self.ground, self.components, self.clauses
+        )
     }
 }
 
@@ -98,7 +102,9 @@ impl<R: Reduction> Pile<R> {
         let Pile { top } = below;
         match R::over(top, heap) {
             Ok(top) => Ok(Pile { top }),
-            Err(AllocFailed { value: top }) => Err(AllocFailed { value: Pile { top } }),
+            Err(AllocFailed { value: top }) => Err(AllocFailed {
+                value: Pile { top },
+            }),
         }
     }
 

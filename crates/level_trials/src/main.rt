@@ -25,7 +25,7 @@ struct Unreduced<L: Level> {
 }
 
 impl<L: Level> Level for Unreduced<L> {
-    ghost pile = { λ x. raised (L.Level.pile x.below) unreduced_rules (unchanged (model x.sheet)) };
+    ghost pile = { λ x. raised (L.pile x.below) unreduced_rules (unchanged (model x.sheet)) };
 
     fn sheet(&self) -> &Sheet {
         &self.sheet

@@ -25,7 +25,7 @@ impl<L: Level> Model for Pile<L> {
 
     ghost view = { λ p. p.top };
 
-    ghost invariant = { λ p. Made (L.Level.pile p.top) };
+    ghost invariant = { λ p. Made (L.pile p.top) };
 }
 
 impl<G: Ground> Pile<G> {
@@ -43,7 +43,7 @@ impl<L: Level> Pile<L> {
     /// The top level, for reading.
     pub fn top(&self) -> &L
         ensures top { result.now ≡ self.now }
-        ensures made { Made (L.Level.pile self.now) }
+        ensures made { Made (L.pile self.now) }
     {
         &self.top
     }
@@ -51,10 +51,10 @@ impl<L: Level> Pile<L> {
     #[tactic(auto, using(crate::proofs::Keeping::made_keeps))]
     /// The size of the ground, and how many components and clauses are left at the top.
     pub fn kernel_size(&self) -> KernelSize
-        ensures ground { result.ground ≡ (base (L.Level.pile self.now)).size }
-        ensures components { result.components ≡ count (top (L.Level.pile self.now)).present }
-        ensures clauses { result.clauses ≡ length (top (L.Level.pile self.now)).clauses }
-        ensures faithful { Throughout (Faithful (base (L.Level.pile self.now))) (L.Level.pile self.now) }
+        ensures ground { result.ground ≡ (base (L.pile self.now)).size }
+        ensures components { result.components ≡ count (top (L.pile self.now)).present }
+        ensures clauses { result.clauses ≡ length (top (L.pile self.now)).clauses }
+        ensures faithful { Throughout (Faithful (base (L.pile self.now))) (L.pile self.now) }
     {
         KernelSize {
             ground: self.top.ground().size(),
@@ -80,11 +80,12 @@ impl fmt::Display for KernelSize {
     ghost output = { λ k. Some (kernel_line k) };
 
     fn fmt<W: fmt::Write>(&self, f: &mut fmt::Formatter<W>) -> fmt::Result {
-        write!(
-            f,
-            "(kernel {} {} {})",
-            self.ground, self.components, self.clauses
-        )
+        let Self {
+            ground,
+            components,
+            clauses,
+        } = self;
+        write!(f, "(kernel {ground} {components} {clauses})")
     }
 }
 
@@ -95,9 +96,9 @@ impl<R: Reduction> Pile<R> {
         heap: Global,
     ) -> Result<Pile<R>, AllocFailed<Pile<R::Below>>>
         ensures raises { MatchResult result
-            (λ x. R.Level.pile x ≡ raised (R.Below.Level.pile below) R.Reduction.rules (R.Reduction.rules.start (top (R.Below.Level.pile below))))
+            (λ x. R.pile x ≡ raised (R.Below.pile below) R.rules (R.rules.start (top (R.Below.pile below))))
             (λ e. e.value ≡ below) }
-        ensures sound { Sound R.Reduction.rules }
+        ensures sound { Sound R.rules }
     {
         let Pile { top } = below;
         match R::over(top, heap) {
@@ -110,16 +111,16 @@ impl<R: Reduction> Pile<R> {
 
     /// The top reduction takes the step (u, v), or declines it and nothing is altered.
     pub fn step(&mut self, u: usize, v: usize) -> Result<(), Refusal>
-        ensures moves { Goes (R.Reduction.rules.moved (top (R.Below.Level.pile (R.Reduction.under self.old))) (own (R.Level.pile self.old)) u v) tt result (own (R.Level.pile self.old)) (own (R.Level.pile self.new)) }
-        ensures after { R.Level.pile self.new ≡ after_step (R.Level.pile self.old) u v }
+        ensures moves { Goes (R.rules.moved (top (R.Below.pile (R.under self.old))) (own (R.pile self.old)) u v) tt result (own (R.pile self.old)) (own (R.pile self.new)) }
+        ensures after { R.pile self.new ≡ after_step (R.pile self.old) u v }
     {
         self.top.step(u, v)
     }
 
     /// The top reduction takes all the steps of its sweep.
     pub fn sweep(&mut self) -> Result<(), Refusal>
-        ensures answer { result ≡ (R.Reduction.rules.swept (top (R.Below.Level.pile (R.Reduction.under self.old))) (own (R.Level.pile self.old))).answer }
-        ensures after { R.Level.pile self.new ≡ after_sweep (R.Level.pile self.old) }
+        ensures answer { result ≡ (R.rules.swept (top (R.Below.pile (R.under self.old))) (own (R.pile self.old))).answer }
+        ensures after { R.pile self.new ≡ after_sweep (R.pile self.old) }
     {
         self.top.sweep()
     }

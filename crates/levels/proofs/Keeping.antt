@@ -42,52 +42,45 @@ keeps_over a b c f g f' g' w k l = record {
     inside : (x : ℕ) → Subset x a.present → Subset (image_set f a.size x) b.present
     inside x s j h = let r = image_from f a.size x j h in subst (Has b.present) r.is (k.images r.at (s r.at r.inside))
 
--- ---- piles whose every reduction keeps its law
+-- ---- piles over the ground s whose every reduction keeps its law
 
-pub data Sturdy : PileModel → Type 0 where
-  lone : (s : SheetModel) → Formed s → Sturdy (ground s)
-  more : (p : PileModel) (r : Rules) (o : Own) → Sturdy p → Sound r → Reached r (top p) o → Sturdy (raised p r o)
+pub data Sturdy (s : SheetModel) : PileModel → Type 0 where
+  lone : Sturdy s (ground s)
+  more : (p : PileModel) (r : Rules) (o : Own) → Sturdy s p → Sound r → Reached r (top p) o → Sturdy s (raised p r o)
 
-pub formed_top : (p : PileModel) → Sturdy p → Formed (top p)
-formed_top _ (lone s w) = w
-formed_top _ (more p r o h s m) = (s.lawful (top p) (formed_top p h) o m).formed
+pub sturdy_after : (s : SheetModel) (p : PileModel) (c : Call) → Sturdy s p → Sturdy s (after p c)
+sturdy_after s p (raise r d) h = more p r (r.start (top p)) h d started
+sturdy_after s _ (step u v) lone = lone
+sturdy_after s _ (step u v) (more p r o h d m) = more p r (settled o (r.moved (top p) o u v)) h d (stepped u v m)
+sturdy_after s _ sweep lone = lone
+sturdy_after s _ sweep (more p r o h d m) = more p r (r.swept (top p) o).left h d (swept m)
+sturdy_after s p read h = h
 
-pub faithful : (p : PileModel) → Sturdy p → Keeps (base p) (top p) (image p) (lift p)
-faithful _ (lone s w) = keeps_itself s w
-faithful _ (more p r o h s m) = keeps_over (base p) (top p) o.sheet (image p) (lift p) o.image o.lift (formed_top p h) (faithful p h) (s.lawful (top p) (formed_top p h) o m).keeps
+pub sturdy_run : (s : SheetModel) (p : PileModel) (cs : List Call) → Sturdy s p → Sturdy s (run p cs)
+sturdy_run s p [] h = h
+sturdy_run s p (c ∷ cs) h = sturdy_run s (after p c) cs (sturdy_after s p c h)
 
-pub throughout : (p : PileModel) → Sturdy p → Throughout (Faithful (base p)) p
-throughout _ (lone s w) = record { grounded = refl; keeps = keeps_itself s w }
-throughout _ (more p r o h s m) = (throughout p h, record { grounded = refl; keeps = faithful (raised p r o) (more p r o h s m) })
+pub base_is : (s : SheetModel) (p : PileModel) → Sturdy s p → base p ≡ s
+base_is s _ lone = refl
+base_is s _ (more p r o h d m) = base_is s p h
+
+module _ (s : SheetModel) (w : Formed s) where
+  pub formed_top : (p : PileModel) → Sturdy s p → Formed (top p)
+  formed_top _ lone = w
+  formed_top _ (more p r o h d m) = (d.lawful (top p) (formed_top p h) o m).formed
+
+  pub faithful : (p : PileModel) → Sturdy s p → Keeps s (top p) (image p) (lift p)
+  faithful _ lone = keeps_itself s w
+  faithful _ (more p r o h d m) = keeps_over s (top p) o.sheet (image p) (lift p) o.image o.lift (formed_top p h) (faithful p h) (d.lawful (top p) (formed_top p h) o m).keeps
+
+  pub throughout : (p : PileModel) → Sturdy s p → Throughout (Faithful s) p
+  throughout _ lone = record { grounded = refl; keeps = keeps_itself s w }
+  throughout _ (more p r o h d m) = (throughout p h, record { grounded = base_is s p h; keeps = faithful (raised p r o) (more p r o h d m) })
 
 -- ---- runs
 
-pub sturdy_after : (p : PileModel) (c : Call) → Sturdy p → Sturdy (after p c)
-sturdy_after p (raise r s) h = more p r (r.start (top p)) h s started
-sturdy_after _ (step u v) (lone s w) = lone s w
-sturdy_after _ (step u v) (more p r o h s m) = more p r (settled o (r.moved (top p) o u v)) h s (stepped u v m)
-sturdy_after _ sweep (lone s w) = lone s w
-sturdy_after _ sweep (more p r o h s m) = more p r (r.swept (top p) o).left h s (swept m)
-sturdy_after p read h = h
-
-pub base_after : (p : PileModel) (c : Call) → base (after p c) ≡ base p
-base_after p (raise r s) = refl
-base_after (ground s) (step u v) = refl
-base_after (raised p r o) (step u v) = refl
-base_after (ground s) sweep = refl
-base_after (raised p r o) sweep = refl
-base_after p read = refl
-
-pub sturdy_run : (p : PileModel) (cs : List Call) → Sturdy p → Sturdy (run p cs)
-sturdy_run p [] h = h
-sturdy_run p (c ∷ cs) h = sturdy_run (after p c) cs (sturdy_after p c h)
-
-pub base_run : (p : PileModel) (cs : List Call) → base (run p cs) ≡ base p
-base_run p [] = refl
-base_run p (c ∷ cs) = base_run (after p c) cs ∙ base_after p c
-
 pub main_law : MainLaw
-main_law s w cs = subst (λ g. Throughout (Faithful g) (run (ground s) cs)) (base_run (ground s) cs) (throughout (run (ground s) cs) (sturdy_run (ground s) cs (lone s w)))
+main_law s w cs = throughout s w (run (ground s) cs) (sturdy_run s (ground s) cs lone)
 
 -- one call more
 pub made_after : (p q : PileModel) (c : Call) → Made p → q ≡ after p c → Made q
@@ -99,7 +92,9 @@ made_after p q c m is = record {
 }
 
 pub made_keeps : (p : PileModel) → Made p → Throughout (Faithful (base p)) p
-made_keeps p m = throughout p (subst Sturdy (sym m.is) (sturdy_run (ground m.from) m.calls (lone m.from m.formed)))
+made_keeps p m =
+    let h = subst (Sturdy m.from) (sym m.is) (sturdy_run m.from (ground m.from) m.calls lone) in
+    subst (λ s. Throughout (Faithful s) p) (sym (base_is m.from p h)) (throughout m.from m.formed p h)
 
 -- ---- from an invariant of its own a reduction has its law
 

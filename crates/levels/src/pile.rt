@@ -29,8 +29,8 @@ impl<L: Level> Model for Pile<L> {
 }
 
 impl<G: Ground> Pile<G> {
-    #[tactic(auto, using(crate::proofs::Keeping::main_law))]
     /// The pile of a ground alone. What holds of every pile that is made from one is the main law.
+    #[tactic(auto, using(crate::proofs::Keeping::main_law))]
     pub fn on(ground: G) -> Pile<G>
         ensures top { result ≡ ground }
         ensures law { MainLaw }
@@ -48,8 +48,8 @@ impl<L: Level> Pile<L> {
         &self.top
     }
 
-    #[tactic(auto, using(crate::proofs::Keeping::made_keeps))]
     /// The size of the ground, and how many components and clauses are left at the top.
+    #[tactic(auto, using(crate::proofs::Keeping::made_keeps))]
     pub fn kernel_size(&self) -> KernelSize
         ensures ground { result.ground ≡ (base (L.pile self.now)).size }
         ensures components { result.components ≡ count (top (L.pile self.now)).present }

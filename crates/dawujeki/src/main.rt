@@ -83,10 +83,7 @@ fn kernel_size(heap: Global) -> Result<KernelSize, Failure>
 
 fn run(rt: &HostRuntime) -> anyhow::Result<()> {
     let size = kernel_size(rt.alloc())?;
-    let ground = size.ground;
-    let components = size.components;
-    let clauses = size.clauses;
-    println!(rt; "(kernel {ground} {components} {clauses})")?;
+    println!(rt; "{size}")?;
     Ok(())
 }
 

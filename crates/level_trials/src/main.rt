@@ -14,7 +14,7 @@ use levels::{Level, Pile, Reduction};
 use refusals::{Failure, Refusal};
 use sets::ComponentSet;
 use sheets::Sheet;
-use std::alloc::{AllocError, Global};
+use std::alloc::{AllocError, AllocFailed, Global};
 use std::io;
 
 /// The smallest reduction there can be: it reduces nothing. It shows that the interface can be met, and by how little.
@@ -25,7 +25,7 @@ struct Unreduced<L: Level> {
 }
 
 impl<L: Level> Level for Unreduced<L> {
-    ghost pile = { λ x. raised (L.Level.pile x.below) unreduced_rules (unchanged (model x.sheet)) };
+    ghost pile = { λ x. raised (L.pile x.below) unreduced_rules (unchanged (model x.sheet)) };
 
     fn sheet(&self) -> &Sheet {
         &self.sheet
@@ -65,10 +65,10 @@ impl<L: Level> Reduction for Unreduced<L> {
 
     ghost gives = { λ b o w k. subst (Law b) (sym k) (record { formed = w; keeps = keeps_itself b w }) };
 
-    fn over(below: L, heap: Global) -> Result<Unreduced<L>, (L, AllocError)> {
+    fn over(below: L, heap: Global) -> Result<Unreduced<L>, AllocFailed<L>> {
         match below.sheet().copy(heap) {
             Ok(sheet) => Ok(Unreduced { below, sheet }),
-            Err(error) => Err((below, error)),
+            Err(_) => Err(AllocFailed { value: below }),
         }
     }
 
@@ -136,13 +136,8 @@ type Two = Unreduced<One>;
 
 /// Two reductions over a ground.
 fn raise(ground: Pile<ClosedCatalogue>, heap: Global) -> Result<Pile<Two>, Failure> {
-    let Ok(one) = Pile::<One>::raise(ground, heap) else {
-        return Err(Failure::OutOfMemory);
-    };
-    let Ok(two) = Pile::<Two>::raise(one, heap) else {
-        return Err(Failure::OutOfMemory);
-    };
-    Ok(two)
+    let one = Pile::<One>::raise(ground, heap).map_err(AllocError::from)?;
+    Ok(Pile::<Two>::raise(one, heap).map_err(AllocError::from)?)
 }
 
 /// A step and a sweep of the top, and what the pile comes to.

@@ -92,7 +92,7 @@ pub trait Level {
 
 /// A level on which the others rest: its sheet is the ground's, and images and lifts leave numbers and sets as they are.
 pub trait Ground: Level {
-    ghost alone: { (x : Self) → Self.Level.pile x ≡ ground (top (Self.Level.pile x)) };
+    ghost alone: { (x : Self) → Self.pile x ≡ ground (top (Self.pile x)) };
 
-    ghost formed: { (x : Self) → Formed (top (Self.Level.pile x)) };
+    ghost formed: { (x : Self) → Formed (top (Self.pile x)) };
 }

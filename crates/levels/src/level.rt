@@ -25,7 +25,7 @@ pub trait Level {
 
     /// The lift of a set, whether or not it is present here.
     fn lift_of(&self, set: ComponentSet) -> ComponentSet
-        ensures { result.bits ≡ lift (pile self.now) set.bits };
+        ensures { result ≡ lift (pile self.now) set };
 
     /// How many numbers its components have: all are below this.
     fn size(&self) -> usize
@@ -36,7 +36,7 @@ pub trait Level {
 
     /// The components that are present.
     fn present(&self) -> ComponentSet
-        ensures { result.bits ≡ (top (pile self.now)).present }
+        ensures { result ≡ (top (pile self.now)).present }
     {
         self.sheet().present()
     }

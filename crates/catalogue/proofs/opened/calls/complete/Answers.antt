@@ -1,4 +1,5 @@
-use Rattle.std.proofs.Common.{◌≡◌, ℕ, length, ap, subst, arith}
+use Rattle.std.proofs.Common.{◌≡◌, ℕ, length, ap, ◌∙◌, subst, arith}
+use Rattle.std.proofs.lemmas.List.{get_or_read}
 use Rattle.sheets.specs.Sheets.{model}
 use Rattle.sheets.specs.Changes.{Goes, conflicts_added}
 use Rattle.sheets.proofs.Forms.{formed}
@@ -15,7 +16,7 @@ loop-component-preserved c =
     let rs = c.args.records.now in
     let k = c.loop-component.component in
     let s = c.loop-component.sheet in
-    let is : c.clashes.result.bits ≡ noted rs k = ap (λ x. x.bits) c.clashes.ensures in
+    let is : c.clashes.result ≡ noted rs k = c.clashes.ensures ∙ get_or_read rs k c.index-records-component.result c.loop-component-test.true c.index-records-component.is 0 in
     closing_more (model e) rs c.requires (formed e) (model s) k c.loop-component.invariant (formed s) c.loop-component-test.true c.add_conflicts.result (model c.add_conflicts.new.self)
     (subst (λ (qs : ℕ). Goes (conflicts_added (model s) k qs) tt c.add_conflicts.result (model s) (model c.add_conflicts.new.self)) is c.add_conflicts.ensures.goes)
 

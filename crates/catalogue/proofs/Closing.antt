@@ -1,5 +1,5 @@
 -- Closing a catalogue: the records' clashes become conflicts, one record after the other.
-use Rattle.std.proofs.Common.{◌≡◌, ℕ, ◌+◌, ◌<◌, ◌≤◌, true, false, ltb, ◌⊎◌, List, map, length, Result, sym, refl, ap, ◌∙◌, subst, inl, inr, arith}
+use Rattle.std.proofs.Common.{◌≡◌, ℕ, ◌+◌, ◌<◌, ◌≤◌, true, false, ltb, ◌⊎◌, List, map, length, Ok, Result, sym, refl, ap, ◌∙◌, subst, inl, inr, arith}
 use Rattle.std.specs.List.{range_with_len}
 use Rattle.std.proofs.lemmas.List.FromFn.{fill_by_all}
 use Rattle.std.proofs.lemmas.List.{get_or_past}
@@ -77,11 +77,11 @@ module _ (e : SheetModel) (rs : List ℕ) (f : Filled e rs) (w : Formed e) where
     named = subst (λ s. within (noted rs k) s ≡ true) (sym present_is) (f.known k)
 
     -- the addition is obeyed
-    obeyed : (r : Result (Unit {0}) Refusal) (n : SheetModel) → Goes (conflicts_added m k (noted rs k)) tt r m n → n ≡ with_conflicts m (opposed m.conflicts k (noted rs k))
-    obeyed r n g = (rw (and_from (has m.present k) (within (noted rs k) m.present) here named, f.foreign k) at g).1
+    pub obeyed : (r : Result (Unit {0}) Refusal) (n : SheetModel) → Goes (conflicts_added m k (noted rs k)) tt r m n → (r ≡ Ok tt) × (n ≡ with_conflicts m (opposed m.conflicts k (noted rs k)))
+    obeyed r n g = rw (and_from (has m.present k) (within (noted rs k) m.present) here named, f.foreign k) at g
 
     pub closing_more : (r : Result (Unit {0}) Refusal) (n : SheetModel) → Goes (conflicts_added m k (noted rs k)) tt r m n → Closing e n rs (k + 1)
-    closing_more r n g = subst (λ x. Closing e x rs (k + 1)) (sym (obeyed r n g)) (record { same = ap (λ x. with_conflicts x (opposed table k qs)) c.same; from = from; all = all })
+    closing_more r n g = subst (λ x. Closing e x rs (k + 1)) (sym (obeyed r n g).1) (record { same = ap (λ x. with_conflicts x (opposed table k qs)) c.same; from = from; all = all })
       where
         table : List ℕ
         table = m.conflicts

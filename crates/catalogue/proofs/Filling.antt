@@ -16,7 +16,7 @@ use Rattle.sheets.specs.Sheets.{SheetModel}
 use Rattle.sheets.specs.declared.clause.Clause.{Clause}
 use Rattle.sheets.proofs.Forms.{within_more, blank_rows, row_grown}
 use Rattle.catalogue.specs.Drafts.{Draft, is_made, need_made}
-use Rattle.catalogue.specs.Notes.{noted, Known, Foreign, Unopposed, Filled}
+use Rattle.catalogue.specs.Notes.{noted, Filled}
 
 -- ---- no component yet
 

@@ -1,5 +1,5 @@
 -- An open catalogue as it is filled, and the sheet that it closes to.
-use Rattle.std.specs.Prelude.{ℕ, Bool, cond, ◌&&◌, ◌||◌, List, [], ◌∷◌, ◌++◌, map, length, Ok, Err, Result, ◌==◌, nat_lt, slice_set}
+use Rattle.std.specs.Prelude.{ℕ, ◌+◌, nat_le, replicate, Bool, cond, ◌&&◌, ◌||◌, List, [], ◌∷◌, ◌++◌, map, length, Ok, Err, Result, ◌==◌, nat_lt, slice_set}
 use Rattle.std.specs.List.{range_with_len}
 use Rattle.sets.specs.Limit.{limit}
 use Rattle.sets.specs.Sets.{has, within, with_member, below, collect}
@@ -25,6 +25,14 @@ is_made d p = nat_lt p (length d.records)
 -- one component more, numbered by how many there were
 abbrev pub component_made : Draft → Result Draft Refusal
 component_made d = cond (nat_lt (length d.records) limit) (Ok (record { clauses = d.clauses; records = d.records ++ 0 ∷ [] })) (Err TooMany)
+
+-- n components more, or none where they would pass the limit
+abbrev pub components_made : Draft → ℕ → Result Draft Refusal
+components_made d n = cond (nat_le (length d.records + n) limit) (Ok (record { clauses = d.clauses; records = d.records ++ replicate n 0 })) (Err TooMany)
+
+-- n components of which nothing is known yet
+abbrev pub unrelated : ℕ → Draft
+unrelated n = record { clauses = []; records = replicate n 0 }
 
 -- p needs one of qs
 abbrev pub need_made : Draft → ℕ → ℕ → Result Draft Refusal

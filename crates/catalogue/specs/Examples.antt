@@ -1,5 +1,5 @@
 -- The eight exhibits as a catalogue, and what they close to, computed from the definitions.
-use Rattle.std.specs.Prelude.{◌≡◌, ℕ, [], ◌∷◌, length}
+use Rattle.std.specs.Prelude.{◌≡◌, [], ◌∷◌, length}
 use Rattle.sets.specs.Sets.{count}
 use Rattle.sheets.specs.Examples.{need_of}
 use Rattle.sheets.specs.Health.{clear}

@@ -4,7 +4,7 @@ ghost use Rattle.sheets.specs.Changes.{Goes};
 ghost use Rattle.sheets.specs.Sheets.{model, conflicts_of};
 ghost use Rattle.catalogue.specs.Notes.{Filled};
 ghost use Rattle.catalogue.specs.Examples.{Examples};
-ghost use Rattle.catalogue.specs.Drafts.{empty_draft, component_made, need_made, clash_made, clash, closed};
+ghost use Rattle.catalogue.specs.Drafts.{empty_draft, component_made, components_made, need_made, clash_made, clash, closed};
 
 use super::OpenCatalogue;
 use crate::closed::ClosedCatalogue;
@@ -33,6 +33,19 @@ impl OpenCatalogue {
         Ok(component)
     }
 
+    /// So many components more; too-many where they would pass the limit, and then none is added.
+    pub fn add_components(&mut self, count: usize) -> Result<(), Refusal>
+        ensures { Goes (components_made self.old count) tt result self.old self.new }
+    {
+        if count > ComponentSet::LIMIT - self.records.len() {
+            return Err(Refusal::TooMany);
+        }
+        for _ in 0..count {
+            self.add_component().unwrap();
+        }
+        Ok(())
+    }
+
     /// A component needs one of the members; no-component where a number was not made yet, then table-full.
     pub fn add_need(&mut self, owner: usize, members: ComponentSet) -> Result<(), Refusal>
         ensures { Goes (need_made self.old owner members) tt result self.old self.new }
@@ -45,6 +58,7 @@ impl OpenCatalogue {
     pub fn add_clash(&mut self, component: usize, other: usize) -> Result<(), Refusal>
         ensures { Goes (clash_made self.old component other) tt result self.old self.new }
     {
+        // Tested here and not by `get_mut`: both numbers come before the clash with oneself.
         if component >= self.records.len() || other >= self.records.len() {
             return Err(Refusal::NoComponent);
         }
@@ -76,6 +90,6 @@ fn complete(sheet: &mut Sheet, records: &[ComponentRecord])
     ensures both { (p q : ℕ) → has (conflicts_of (model sheet.new) p) q ≡ clash (record { clauses = (model sheet.old).clauses; records = records.now }) p q }
 {
     for (component, record) in records.iter().enumerate() {
-        let _ = sheet.add_conflicts(component, record.clashes());
+        sheet.add_conflicts(component, record.clashes()).unwrap();
     }
 }

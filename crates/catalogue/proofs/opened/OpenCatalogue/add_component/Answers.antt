@@ -13,6 +13,8 @@ invariant_of-self-2 c =
     let rs = c.push_reserved.new.self in
     let lt : (model o.sheet).size < limit = search rules in
     let is : model s ≡ grown (model o.sheet) = search rules in
-    let room : limit ≤ vec_capacity rs = search rules in
-    (subst (λ (m : SheetModel). Filled m (vec_items rs)) (sym is)
-    (subst (λ (xs : List ℕ). Filled (grown (model o.sheet)) xs) (sym c.push_reserved.ensures.items) (filled_grown (model o.sheet) (vec_items o.records) c.new.result c.new.ensures lt c.self.invariant.0)), room)
+    let room : limit ≤ vec_capacity rs = search rules in (
+      subst (λ (m : SheetModel). Filled m (vec_items rs)) (sym is)
+          (subst (λ (xs : List ℕ). Filled (grown (model o.sheet)) xs) (sym c.push_reserved.ensures.items) (filled_grown (model o.sheet) (vec_items o.records) c.new.result c.new.ensures lt c.self.invariant.0)),
+      room,
+    )

@@ -5,7 +5,7 @@ use Rattle.std.proofs.lemmas.Bool.{lt-ltb, le-leb}
 use Rattle.refusals.specs.declared.Refusal.{Refusal}
 use Rattle.sets.specs.Limit.{limit}
 use Rattle.sheets.specs.Changes.{Goes}
-use Rattle.catalogue.specs.Drafts.{Draft, component_made, components_made}
+use Rattle.catalogue.specs.Drafts.{Draft, component_made, components_made, need_made}
 
 -- a call f on the draft d, which is x; on x it gives y
 pub obeyed : {U : Type 0} (f : Draft → Result Draft Refusal) (d n x y : Draft) (u : U) (r : Result U Refusal) → d ≡ x → f x ≡ Ok y → Goes (f d) u r d n → (is_ok r ≡ true) × (n ≡ y)
@@ -14,6 +14,10 @@ obeyed {U} f d n x y u r same gives g = go (f d) (ap f same ∙ gives) g
     go : (q : Result Draft Refusal) → q ≡ Ok y → Goes {U = U} q u r d n → (is_ok r ≡ true) × (n ≡ y)
     go (Ok z) h g = let e : z ≡ y = cc in (ap is_ok g.0, g.1 ∙ e)
     go (Err z) h g = let e : ◌≡◌ {A = ℕ} 0 1 = cc in absurd (omega arith)
+
+-- the same of a need whose members are the set k
+pub need_obeyed : (p k s : ℕ) (d n x y : Draft) (r : Result (Unit {0}) Refusal) → s ≡ k → d ≡ x → need_made x p k ≡ Ok y → Goes (need_made d p s) tt r d n → (is_ok r ≡ true) × (n ≡ y)
+need_obeyed p k s d n x y r e same gives g = obeyed (λ c. need_made c p s) d n x y tt r same (ap (λ b. need_made x p b) e ∙ gives) g
 
 -- k components more than d has
 abbrev pub with_more : Draft → ℕ → Draft

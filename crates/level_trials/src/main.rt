@@ -14,7 +14,7 @@ use levels::{Level, Pile, Reduction};
 use refusals::{Failure, Refusal};
 use sets::ComponentSet;
 use sheets::Sheet;
-use std::alloc::{AllocError, AllocFailed, Global};
+use std::alloc::{AllocFailed, Global};
 use std::io;
 
 /// The smallest reduction there can be: it reduces nothing. It shows that the interface can be met, and by how little.
@@ -66,7 +66,7 @@ impl<L: Level> Reduction for Unreduced<L> {
     ghost gives = { λ b o w k. subst (Law b) (sym k) (record { formed = w; keeps = keeps_itself b w }) };
 
     fn over(below: L, heap: Global) -> Result<Unreduced<L>, AllocFailed<L>> {
-        match below.sheet().copy(heap) {
+        match below.sheet().clone() {
             Ok(sheet) => Ok(Unreduced { below, sheet }),
             Err(_) => Err(AllocFailed { value: below }),
         }
@@ -91,18 +91,12 @@ impl<L: Level> Reduction for Unreduced<L> {
     }
 }
 
-fn pair(one: usize, other: usize) -> ComponentSet {
-    ComponentSet::empty().with(one).with(other)
-}
-
 /// 0 needs 1, 1 needs 0, and 1 clashes with 2.
 fn ring(heap: Global) -> Result<ClosedCatalogue, Failure> {
     let mut catalogue = OpenCatalogue::new(heap)?;
-    for _ in 0..3 {
-        catalogue.add_component()?;
-    }
-    catalogue.add_need(0, pair(1, 1))?;
-    catalogue.add_need(1, pair(0, 0))?;
+    catalogue.add_components(3)?;
+    catalogue.add_need(0, ComponentSet::from([1]))?;
+    catalogue.add_need(1, ComponentSet::from([0]))?;
     catalogue.add_clash(1, 2)?;
     Ok(catalogue.close())
 }
@@ -125,8 +119,8 @@ fn print_ties<L: Level>(rt: &HostRuntime, level: &L) -> io::Result<()> {
     println!(rt; "image {:?} {:?}", level.image(2), level.image(3))?;
     println!(rt;
         "lift {:?} {:?}",
-        level.lift(pair(0, 2)),
-        level.lift(pair(0, 3))
+        level.lift(ComponentSet::from([0, 2])),
+        level.lift(ComponentSet::from([0, 3]))
     )
 }
 
@@ -136,8 +130,8 @@ type Two = Unreduced<One>;
 
 /// Two reductions over a ground.
 fn raise(ground: Pile<ClosedCatalogue>, heap: Global) -> Result<Pile<Two>, Failure> {
-    let one = Pile::<One>::raise(ground, heap).map_err(AllocError::from)?;
-    Ok(Pile::<Two>::raise(one, heap).map_err(AllocError::from)?)
+    let one = Pile::<One>::raise(ground, heap)?;
+    Ok(Pile::<Two>::raise(one, heap)?)
 }
 
 /// A step and a sweep of the top, and what the pile comes to.

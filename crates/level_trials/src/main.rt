@@ -102,7 +102,7 @@ fn ring(heap: Global) -> Result<ClosedCatalogue, Failure> {
 }
 
 /// The look-ups of any level in its own sheet.
-fn print_sheet<L: Level>(rt: &HostRuntime, level: &L) -> io::Result<()> {
+fn print_sheet<L: Level>(rt: &impl Print, level: &L) -> io::Result<()> {
     println!(rt; "size {} clauses {}", level.size(), level.clause_count())?;
     println!(rt; "present {:?}", level.present())?;
     println!(rt; "owner {:?} {:?}", level.owner(1), level.owner(2))?;
@@ -110,7 +110,7 @@ fn print_sheet<L: Level>(rt: &HostRuntime, level: &L) -> io::Result<()> {
 }
 
 /// The look-ups of any level between it and the ground.
-fn print_ties<L: Level>(rt: &HostRuntime, level: &L) -> io::Result<()> {
+fn print_ties<L: Level>(rt: &impl Print, level: &L) -> io::Result<()> {
     println!(rt;
         "conflicts {:?} {:?}",
         level.conflicts(2),
@@ -135,7 +135,7 @@ fn raise(ground: Pile<ClosedCatalogue>, heap: Global) -> Result<Pile<Two>, Failu
 }
 
 /// A step and a sweep of the top, and what the pile comes to.
-fn print_calls(rt: &HostRuntime, pile: &mut Pile<Two>) -> io::Result<()> {
+fn print_calls(rt: &impl Print, pile: &mut Pile<Two>) -> io::Result<()> {
     println!(rt; "step {:?} sweep {:?}", pile.step(0, 0), pile.sweep())?;
     println!(rt; "below {}", pile.top().below().clause_count())?;
     let size = pile.kernel_size();
@@ -145,7 +145,7 @@ fn print_calls(rt: &HostRuntime, pile: &mut Pile<Two>) -> io::Result<()> {
     )
 }
 
-fn run(rt: &HostRuntime) -> anyhow::Result<()> {
+fn run(rt: &(impl Print + AllocGlobal)) -> anyhow::Result<()> {
     let ground = Pile::on(ring(rt.alloc())?);
     print_sheet(rt, ground.top())?;
     print_ties(rt, ground.top())?;

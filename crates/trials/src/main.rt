@@ -10,7 +10,7 @@ use std::alloc::Global;
 use std::io;
 
 /// Sets: members in order, the operators, and numbers at the limit.
-fn print_sets(rt: &HostRuntime) -> io::Result<()> {
+fn print_sets(rt: &impl Print) -> io::Result<()> {
     let last = ComponentSet::LIMIT - 1;
     let a = ComponentSet::from([3, 0, last]);
     let b = ComponentSet::from([3, 5]);
@@ -43,7 +43,7 @@ fn ring(heap: Global, components: usize) -> Result<ClosedCatalogue, Failure> {
 }
 
 /// Health and support of the two rings.
-fn print_health(rt: &HostRuntime, ground: &Sheet) -> io::Result<()> {
+fn print_health(rt: &impl Print, ground: &Sheet) -> io::Result<()> {
     println!(rt;
         "clear {:?} free {:?}",
         ground.clear_components(),
@@ -58,7 +58,7 @@ fn print_health(rt: &HostRuntime, ground: &Sheet) -> io::Result<()> {
 }
 
 /// What a call of a catalogue answers at its limits.
-fn print_refusals(rt: &HostRuntime) -> anyhow::Result<()> {
+fn print_refusals(rt: &(impl Print + AllocGlobal)) -> anyhow::Result<()> {
     let mut catalogue = OpenCatalogue::new(rt.alloc())?;
     catalogue.add_components(ComponentSet::LIMIT)?;
     println!(rt; "{:?}", catalogue.add_component())?;
@@ -94,7 +94,7 @@ fn print_refusals(rt: &HostRuntime) -> anyhow::Result<()> {
     Ok(())
 }
 
-fn run(rt: &HostRuntime) -> anyhow::Result<()> {
+fn run(rt: &(impl Print + AllocGlobal)) -> anyhow::Result<()> {
     print_sets(rt)?;
     print_health(rt, ring(rt.alloc(), 2)?.sheet())?;
     print_health(rt, ring(rt.alloc(), 3)?.sheet())?;

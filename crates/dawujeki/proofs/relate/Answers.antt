@@ -35,5 +35,5 @@ returns c =
     let e3 : d3 ≡ x3 = (need_obeyed 1 0b1 c.from-2.result d2 d3 x2 x3 _ c.from-2.ensures.value e2 refl c.add_need-3.ensures).1 in
     let e4 : d4 ≡ x4 = (need_obeyed 4 0b100000 c.from-3.result d3 d4 x3 x4 _ c.from-3.ensures.value e3 refl c.add_need-4.ensures).1 in
     let e5 : d5 ≡ x5 = (need_obeyed 5 0b11000000 c.from-codecs.result d4 d5 x4 x5 _ c.from-codecs.ensures.value e4 refl c.add_need-5.ensures).1 in
-    let e6 : d6 ≡ with_loop = (obeyed (λ d. clash_made d 4 1) d5 d6 x5 with_loop tt _ e5 refl c.add_clash.ensures).1 in
-    (obeyed (λ d. clash_made d 6 7) d6 d7 with_loop eight tt _ e6 refl c.add_clash-2.ensures).1
+    let e6 : d6 ≡ with_loop = (obeyed (λ d. clash_made d 4 1) d5 x5 with_loop d6 tt _ e5 refl c.add_clash.ensures).1 in
+    (obeyed (λ d. clash_made d 6 7) d6 with_loop eight d7 tt _ e6 refl c.add_clash-2.ensures).1

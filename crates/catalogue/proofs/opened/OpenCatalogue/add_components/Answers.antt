@@ -11,7 +11,7 @@ added : (c : After-add_component) → (is_ok c.add_component.result ≡ true) ×
 added c =
     let d = c.args.self.now in
     let k = c.loop.counter in
-    obeyed component_made c.loop.self c.add_component.new.self (with_more d k) (with_more d (k + 1)) (length c.loop.self.records) c.add_component.result c.loop.invariant
+    obeyed component_made c.loop.self (with_more d k) (with_more d (k + 1)) c.add_component.new.self (length c.loop.self.records) c.add_component.result c.loop.invariant
     (one_more d k (omega (arith, c.self.inside.records.ok.0, ap (λ (x : Draft). length x.records) c.self.view_is, c.self.invariant.0.counted, c.self.inside.sheet.small))) c.add_component.ensures
 
 pub loop-init : goal.loop-init

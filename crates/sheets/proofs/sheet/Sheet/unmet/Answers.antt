@@ -10,9 +10,6 @@ use Rattle.sheets.proofs.Feeding.{turn_met, turn_unmet}
 use Rattle.sheets.proofs.sheet.Sheet.unmet.Goals as goal
 use Rattle.sheets.proofs.sheet.Sheet.unmet.Goals.{then-not-intersects, else-not-intersects}
 
-pub loop-clause-init : goal.loop-clause-init
-loop-clause-init c = ap (λ s. bit_or s (unmet c.deref-clause-items.result.now c.args.set)) c.empty-owners.ensures.value
-
 pub loop-clause-preserved : goal.loop-clause-preserved
 loop-clause-preserved c =
     let m = model c.args.self.now in

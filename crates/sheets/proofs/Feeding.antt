@@ -15,9 +15,6 @@ use Rattle.sheets.specs.declared.clause.Clause.{Clause}
 pub fed_more : (cs : List Clause) (w x y : ℕ) → Subset x y → Fed cs w x → Fed cs w y
 fed_more cs w x y s f = All-weaker _ (λ c. Has w c.owner → Meet c.members y) (λ c g h. meet_more c.members x y s (g h)) cs f
 
-pub fed_fewer : (cs : List Clause) (v w x : ℕ) → Subset v w → Fed cs w x → Fed cs v x
-fed_fewer cs v w x s f = All-weaker _ (λ c. Has v c.owner → Meet c.members x) (λ c g h. g (s c.owner h)) cs f
-
 -- what one clause adds to the unmet owners
 in_lacking : (c : Clause) (s i : ℕ) → Has (cond (meets c.members s) 0 (2 ^ c.owner)) i → (meets c.members s ≡ false) × (i ≡ c.owner)
 in_lacking c s i h = go (meets c.members s) refl h

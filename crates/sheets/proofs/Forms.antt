@@ -1,20 +1,19 @@
 -- What every sheet keeps, and that each change keeps it.
-use Rattle.std.proofs.Common.{◌≡◌, ℕ, zero, suc, ◌+◌, ◌^◌, ◌<◌, ◌≤◌, Bool, true, false, ◌&&◌, ◌||◌, eqb, ltb, ◌⊎◌, List, [], ◌∷◌, ◌++◌, length, get_or, vec_items, vec_len, vec_capacity, Vec, sym, refl, ap, ◌∙◌, subst, inl, inr, pow-suc, add-one, arith, below_more}
+use Rattle.std.proofs.Common.{◌≡◌, ℕ, zero, suc, ◌+◌, ◌^◌, ◌<◌, Bool, true, false, ◌&&◌, ◌||◌, eqb, List, [], ◌∷◌, ◌++◌, length, get_or, vec_items, Vec, sym, refl, ap, ◌∙◌, subst, inl, inr, pow-suc, add-one, arith}
 use lib.Bits.{bit_or}
 use Rattle.std.specs.Vec.{with_items}
 use Rattle.std.specs.declared.alloc.Global.{Global}
 use Rattle.std.specs.Cmp.{both_ways as same_tests}
 use Rattle.std.proofs.lemmas.Nat.{or_lt}
 use Rattle.std.proofs.lemmas.List.FromFn.{get_or-map-range_with_len, length-map-range_with_len, fill_by_all}
-use Rattle.std.proofs.lemmas.List.{length_push, get_or_push, get_or_append_left, get_or_past, get_or_read, with_items_is}
-use Rattle.std.proofs.lemmas.Bool.{cases_Bool, cases_lt, both_ways, eq-eqb, eqb-true, lt-ltb, and_from, and_parts, or_left, or_right, or_cases, cond-true, cond-false}
+use Rattle.std.proofs.lemmas.List.{get_or_past, get_or_read, with_items_is}
+use Rattle.std.proofs.lemmas.Bool.{cases_Bool, cases_lt, both_ways, eq-eqb, eqb-true, and_from, and_parts, or_left, or_right, or_cases}
 use Rattle.std.proofs.lemmas.Bool.Decides.{nat_tests}
 use Rattle.sets.specs.Limit.{limit}
 use Rattle.sets.specs.Sets.{has, Has, Subset, within, with_member}
 use Rattle.sets.proofs.Membership.{has_empty, has_or, has_with, has_below, with_is}
-use Rattle.sets.proofs.Order.{decides_sub, sub_or_left, sub_or_right, in_or}
-use Rattle.sheets.specs.Limits.{max_clauses}
-use Rattle.sheets.specs.Clauses.{no_clause, clause_at, row, Owned, Known, Among, Mutual, Irreflexive}
+use Rattle.sets.proofs.Order.{decides_sub, sub_none}
+use Rattle.sheets.specs.Clauses.{no_clause, clause_at, row, Among, Mutual, Irreflexive}
 use Rattle.sheets.specs.Sheets.{SheetModel, model, Formed}
 use Rattle.sheets.specs.Changes.{grown, opposed_set, opposed_row, opposed}
 use Rattle.sheets.specs.declared.clause.Clause.{Clause}
@@ -56,11 +55,8 @@ pub blank_rows : (i : ℕ) → row [] i ≡ 0
 blank_rows zero = refl
 blank_rows (suc i) = refl
 
-blank_none : (i j : ℕ) → has (row [] i) j ≡ false
-blank_none i j = ap (λ s. has s j) (blank_rows i) ∙ has_empty j
-
 pub blank_among : (p i : ℕ) → within (row [] i) p ≡ true
-blank_among p i = (decides_sub (row [] i) p).1 (λ j h. absurd (both_ways (has (row [] i) j) (blank_none i j) h))
+blank_among p i = ap (λ s. within s p) (blank_rows i) ∙ (decides_sub 0 p).1 (sub_none p)
 
 -- ---- one more component
 

@@ -97,19 +97,6 @@ module _ (m : SheetModel) where
   unfolding support
   support_greatest x q c = rounds_hold m.size m.clauses x q (clear m) c.closed c.clears
 
-  -- it grows with the set
-  pub support_grows : (x y : ℕ) → Subset x y → Subset (support m x) (support m y)
-  support_grows x y s =
-      support_greatest y (support m x)
-      (record {
-        clears = support_clear x;
-        closed = fed_more m.clauses (support m x) (bit_or x (support m x)) (bit_or y (support m x)) (sub_or_both x (support m x) y (support m x) s (sub_refl (support m x))) (support_fed x);
-      })
-
-  -- it alone is closed and holds every closed set
-  pub support_only : (x q : ℕ) → Supported m x q → ((p : ℕ) → Supported m x p → Subset p q) → q ≡ support m x
-  support_only x q c g = sub_antisym q (support m x) (support_greatest x q c) (g (support m x) (support_closed x))
-
   -- a closed set that holds the support is the support: where the narrowing ends
   pub support_is : (x q : ℕ) → Subset q (clear m) → Subset (support m x) q → narrowed m.clauses x q ≡ q → q ≡ support m x
   support_is x q c s e = sub_antisym q (support m x) (support_greatest x q (record { clears = c; closed = narrowed_stays m.clauses x q e })) s

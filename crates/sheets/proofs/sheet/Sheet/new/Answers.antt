@@ -1,4 +1,4 @@
-use Rattle.std.proofs.Common.{ℕ, List, [], ap, ◌∙◌}
+use Rattle.std.proofs.Common.{ℕ, List, ap, ◌∙◌}
 use Rattle.sets.specs.Sets.{within}
 use Rattle.sheets.specs.Clauses.{row}
 use Rattle.sheets.proofs.Forms.{blank_among}

@@ -1,5 +1,5 @@
 -- What every sheet keeps, and that each change keeps it.
-use Rattle.std.proofs.Common.{◌≡◌, ℕ, zero, suc, ◌+◌, ◌^◌, ◌<◌, Bool, true, false, ◌&&◌, ◌||◌, eqb, List, [], ◌∷◌, ◌++◌, length, get_or, vec_items, Vec, sym, refl, ap, ◌∙◌, subst, inl, inr, pow-suc, add-one, arith}
+use Rattle.std.proofs.Common.{◌≡◌, ℕ, zero, suc, ◌+◌, ◌^◌, ◌<◌, ◌≤◌, Bool, true, false, ◌&&◌, ◌||◌, eqb, List, [], ◌∷◌, ◌++◌, length, get_or, vec_items, vec_len, Vec, sym, refl, ap, ◌∙◌, subst, inl, inr, pow-suc, add-one, arith}
 use lib.Bits.{bit_or}
 use Rattle.std.specs.Vec.{with_items}
 use Rattle.std.specs.declared.alloc.Global.{Global}
@@ -7,11 +7,12 @@ use Rattle.std.specs.Cmp.{both_ways as same_tests}
 use Rattle.std.proofs.lemmas.Nat.{or_lt}
 use Rattle.std.proofs.lemmas.List.FromFn.{get_or-map-range_with_len, length-map-range_with_len, fill_by_all}
 use Rattle.std.proofs.lemmas.List.{get_or_past, get_or_read, with_items_is}
-use Rattle.std.proofs.lemmas.Bool.{cases_Bool, cases_lt, both_ways, eq-eqb, eqb-true, and_from, and_parts, or_left, or_right, or_cases}
+use Rattle.std.proofs.lemmas.Bool.{cases_Bool, cases_lt, both_ways, eq-eqb, eqb-true, and_from, and_parts, and_left, and_right, or_left, or_right, or_cases}
 use Rattle.std.proofs.lemmas.Bool.Decides.{nat_tests}
 use Rattle.sets.specs.Limit.{limit}
 use Rattle.sets.specs.Sets.{has, Has, Subset, within, with_member}
-use Rattle.sets.proofs.Membership.{has_empty, has_or, has_with, has_below, with_is}
+use Rattle.sets.proofs.Membership.{has_empty, has_or, has_with, has_above, has_below, has_collect, with_is}
+use Rattle.sets.proofs.Loops.{collect_with, collect_without}
 use Rattle.sets.proofs.Order.{decides_sub, sub_none}
 use Rattle.sheets.specs.Clauses.{no_clause, clause_at, row, Among, Mutual, Irreflexive}
 use Rattle.sheets.specs.Sheets.{SheetModel, model, Formed}
@@ -39,6 +40,9 @@ module _ (m : SheetModel) (w : Formed m) where
 
   pub present_limit : (i : ℕ) → Has m.present i → i < limit
   present_limit i h = omega (arith, present_below i h, w.small)
+
+pub absent_past : (s : Sheet) (i : ℕ) → vec_len s.conflicts ≤ i → has s.present i ≡ false
+absent_past s i le = has_above (vec_len s.conflicts) s.present i s.bounded le
 
 -- the owner of a clause can be a member of a set
 pub owner_limit : (m : SheetModel) → Formed m → (cs : List Clause) (k : ℕ) (c : Clause) → cs ≡ m.clauses → k < length cs → c ≡ get_or cs k c → c.owner < limit
@@ -168,3 +172,5 @@ pub refilled_opposed : (t : Vec ℕ Global) (ws : List ℕ) (p qs : ℕ) → len
 refilled_opposed t ws p qs same each =
     let filled = fill_by_all (opposed_row (vec_items t) p qs) ws (length (vec_items t)) 0 same each in
     sym (with_items_is t ws (same ∙ sym t.ok.0) ∙ filled)
+
+pub ruleset clearing = (collect_with, collect_without, with_is, has_collect, absent_past)

@@ -32,6 +32,7 @@ impl Sheet {
     }
 
     /// The components that conflict with none.
+    #[tactic(auto, using(crate::proofs::Forms::clearing), unfolding(sets::specs::Sets::collect, crate::specs::Health::clear))]
     pub fn clear_components(&self) -> ComponentSet
         ensures value { result ≡ clear (model self.now) }
         ensures members { (i : ℕ) → has result i ≡ is_clear (model self.now).present (model self.now).conflicts i }
@@ -62,6 +63,7 @@ impl Sheet {
     }
 
     /// The free set: what the empty set supports. Components that need only one another are free where none of them conflicts.
+    #[tactic(auto, using(crate::proofs::Examples::examples), unfolding(crate::specs::Support::free))]
     pub fn free_set(&self) -> ComponentSet
         ensures value { result ≡ free (model self.now) }
         ensures rings { (q : ℕ) → Subset q (clear (model self.now)) → Fed (model self.now).clauses q q → Subset q result }
@@ -84,6 +86,7 @@ impl Sheet {
     }
 
     /// The candidates each of whose needs is met by the set or by the candidates.
+    #[tactic(auto, unfolding(crate::specs::Support::narrowed))]
     fn narrowed(&self, set: ComponentSet, candidates: ComponentSet) -> ComponentSet
         ensures { result ≡ narrowed (model self.now).clauses set candidates }
     {

@@ -97,6 +97,20 @@ module _ (m : SheetModel) where
   unfolding support
   support_greatest x q c = rounds_hold m.size m.clauses x q (clear m) c.closed c.clears
 
-  -- a closed set that holds the support is the support: where the narrowing ends
-  pub support_is : (x q : ℕ) → Subset q (clear m) → Subset (support m x) q → narrowed m.clauses x q ≡ q → q ≡ support m x
-  support_is x q c s e = sub_antisym q (support m x) (support_greatest x q (record { clears = c; closed = narrowed_stays m.clauses x q e })) s
+-- what the narrowing keeps: q lies between the support and the clear components
+pub record Narrowing (m : SheetModel) (x q : ℕ) : Type 0 where
+  pub clears : Subset q (clear m)
+  pub holds : Subset (support m x) q
+
+module _ (m : SheetModel) (x q : ℕ) where
+  pub narrowing_starts : q ≡ clear m → Narrowing m x q
+  narrowing_starts e = record { clears = λ i h. ap (λ s. has s i) (sym e) ∙ h; holds = λ i h. ap (λ s. has s i) e ∙ (support_closed m x).clears i h }
+
+  pub narrowing_goes_on : Narrowing m x q → Narrowing m x (narrowed m.clauses x q)
+  narrowing_goes_on n = record {
+    clears = λ i h. n.clears i (narrowed_less m.clauses x q i h);
+    holds = narrowed_holds m.clauses x (support m x) q (support_closed m x).closed n.holds;
+  }
+
+  pub narrowing_ends : Narrowing m x q → narrowed m.clauses x q ≡ q → q ≡ support m x
+  narrowing_ends n e = sub_antisym q (support m x) (support_greatest m x q (record { clears = n.clears; closed = narrowed_stays m.clauses x q e })) n.holds

@@ -14,6 +14,7 @@ use sets::ComponentSet;
 
 impl Sheet {
     /// Whether a set is a healthy installation: all present, every need met, and no conflict.
+    #[tactic(auto, using(crate::proofs::Feeding::fed_apart, crate::proofs::Feeding::apart_fed, crate::proofs::Forms::absent_past))]
     pub fn is_healthy(&self, set: ComponentSet) -> bool
         ensures { Decides result (Healthy (model self.now) set) }
     {
@@ -47,6 +48,7 @@ impl Sheet {
     }
 
     /// The support of a set: the greatest set of clear components each of whose needs is met by the set or by itself.
+    #[tactic(auto, using(crate::proofs::Supports::narrowed_lower, crate::proofs::Supports::support_greatest))]
     pub fn support(&self, set: ComponentSet) -> ComponentSet
         ensures value { result ≡ support (model self.now) set }
         ensures closed { Supported (model self.now) set result }

@@ -1,16 +1,18 @@
 -- Which needs are met.
-use Rattle.std.proofs.Common.{◌≡◌, ℕ, ◌+◌, ◌^◌, ◌<◌, Bool, true, false, cond, ◌⊎◌, List, [], ◌∷◌, length, get_or, drop, sym, refl, ap, ◌∙◌, inl, inr}
+use Rattle.std.proofs.Common.{◌≡◌, ℕ, ◌+◌, ◌^◌, ◌<◌, ◌≤◌, Bool, true, false, cond, ◌⊎◌, List, [], ◌∷◌, length, get_or, drop, sym, refl, ap, ◌∙◌, inl, inr}
 use lib.Bits.{bit_or, or_zero_r}
 use Rattle.std.proofs.ByRecursion.{All-weaker}
-use Rattle.std.proofs.lemmas.List.{at_drop_more}
+use Rattle.std.proofs.lemmas.List.{at_drop_more, at_drop_all}
 use Rattle.std.proofs.lemmas.Bool.{cases_Bool, both_ways, eqb-true, eq-eqb, cond-true, cond-false}
 use Rattle.sets.specs.Limit.{limit}
 use Rattle.sets.specs.Sets.{has, Has, Subset, Apart, Meet, meets, with_member}
 use Rattle.sets.proofs.Membership.{has_single, has_empty, with_is}
 use Rattle.sets.proofs.Order.{decides_meet, not_meet, meet_more, in_or, sub_or_left, sub_or_right, or_assoc}
+use Rattle.sheets.specs.Clauses.{clause_at, no_clause}
 use Rattle.sheets.specs.Health.{Fed}
 use Rattle.sheets.specs.Support.{unmet}
 use Rattle.sheets.specs.declared.clause.Clause.{Clause}
+use Rattle.sheets.proofs.Forms.{owner_small}
 
 pub fed_more : (cs : List Clause) (w x y : ℕ) → Subset x y → Fed cs w x → Fed cs w y
 fed_more cs w x y s f = All-weaker _ (λ c. Has w c.owner → Meet c.members y) (λ c g h. meet_more c.members x y s (g h)) cs f
@@ -50,20 +52,17 @@ apart_fed (c ∷ cs) w s a = (
   apart_fed cs w s (λ i h u. a i h (sub_or_right (cond (meets c.members s) 0 (2 ^ c.owner)) (unmet cs s) i u)),
 )
 
--- one turn of the loop that collects the unmet owners: the clause at i adds its owner where no member is in s
-module _ (cs : List Clause) (s i got : ℕ) (c : Clause) (lt : i < length cs) (is : c ≡ get_or cs i c) where
-  pub unmet_turn : bit_or (bit_or got (cond (meets c.members s) 0 (2 ^ c.owner))) (unmet (drop (i + 1) cs) s) ≡ bit_or got (unmet (drop i cs) s)
-  unfolding unmet
-  unmet_turn =
-      let later : ℕ = unmet (drop (i + 1) cs) s in
-      or_assoc got (cond (meets c.members s) 0 (2 ^ c.owner)) later
-      ∙ ap (λ (d : Clause). bit_or got (bit_or (cond (meets d.members s) 0 (2 ^ d.owner)) later)) is
-      ∙ sym (ap (bit_or got) (at_drop_more (λ ds. unmet ds s) cs i c lt))
+-- ---- the loop that collects the unmet owners
 
-  pub turn_met : meets c.members s ≡ true → bit_or got (unmet (drop (i + 1) cs) s) ≡ bit_or got (unmet (drop i cs) s)
-  turn_met e =
-      ap (λ n. bit_or n (unmet (drop (i + 1) cs) s)) (sym (or_zero_r got) ∙ ap (bit_or got) (sym (cond-true (meets c.members s) 0 (2 ^ c.owner) e))) ∙ unmet_turn
+pub unmet_step : (cs : List Clause) (s i : ℕ) → i < length cs → unmet (drop i cs) s ≡ bit_or (cond (meets (clause_at cs i).members s) 0 (2 ^ (clause_at cs i).owner)) (unmet (drop (i + 1) cs) s)
+unfolding unmet
+unmet_step cs s i lt = at_drop_more (λ ds. unmet ds s) cs i no_clause lt
 
-  pub turn_unmet : meets c.members s ≡ false → c.owner < limit → bit_or (with_member got c.owner) (unmet (drop (i + 1) cs) s) ≡ bit_or got (unmet (drop i cs) s)
-  turn_unmet e small =
-      ap (λ n. bit_or n (unmet (drop (i + 1) cs) s)) (sym (with_is got c.owner small) ∙ ap (bit_or got) (sym (cond-false (meets c.members s) 0 (2 ^ c.owner) e))) ∙ unmet_turn
+pub unmet_end : (cs : List Clause) (s i : ℕ) → length cs ≤ i → unmet (drop i cs) s ≡ 0
+unfolding unmet
+unmet_end cs s i le = at_drop_all (λ ds. unmet ds s) cs i le
+
+pub or_regroup : (a b c : ℕ) → bit_or a (bit_or b c) ≡ bit_or (bit_or a b) c
+or_regroup a b c = sym (or_assoc a b c)
+
+pub ruleset collecting = (unmet_step, unmet_end, or_regroup, or_zero_r, with_is, owner_small)

@@ -45,10 +45,8 @@ pub absent_past : (s : Sheet) (i : ℕ) → vec_len s.conflicts ≤ i → has s.
 absent_past s i le = has_above (vec_len s.conflicts) s.present i s.bounded le
 
 -- the owner of a clause can be a member of a set
-pub owner_limit : (m : SheetModel) → Formed m → (cs : List Clause) (k : ℕ) (c : Clause) → cs ≡ m.clauses → k < length cs → c ≡ get_or cs k c → c.owner < limit
-owner_limit m w cs k c e lt is =
-    let at : c.owner ≡ (clause_at m.clauses k).owner = ap (λ (d : Clause). d.owner) (get_or_read cs k c lt is no_clause) ∙ ap (λ (ds : List Clause). (clause_at ds k).owner) e in
-    omega (arith, at, present_limit m w (clause_at m.clauses k).owner (w.owned k (subst (λ (ds : List Clause). k < length ds) e lt)))
+pub owner_small : (s : Sheet) (k : ℕ) → k < length (vec_items s.clauses) → (clause_at (vec_items s.clauses) k).owner < limit
+owner_small s k lt = present_limit (model s) (formed s) (clause_at (vec_items s.clauses) k).owner (s.owned k lt)
 
 pub within_more : (a b c : ℕ) → Subset b c → within a b ≡ true → within a c ≡ true
 within_more a b c s h = (decides_sub a c).1 (λ i p. s i ((decides_sub a b).0 h i p))
@@ -78,6 +76,33 @@ pub with_below : (s k r n : ℕ) → s < 2 ^ k → k < limit → r ≡ with_memb
 with_below s k r n small lt e at =
     let one_more : 2 ^ n ≡ 2 ^ k + 2 ^ k = ap (λ j. 2 ^ j) (at ∙ add-one k) ∙ omega (arith, pow-suc 2 k) in
     subst (λ t. t < 2 ^ n) (with_is s k lt ∙ sym e) (or_lt n s (2 ^ k) (omega (arith, one_more)) (omega (arith, one_more)))
+
+pub within_with : (a s i : ℕ) → within a s ≡ true → within a (with_member s i) ≡ true
+within_with a s i h = within_more a s (with_member s i) (λ j g. has_with s i j ∙ or_left _ _ g) h
+
+pub has_more : (s i j : ℕ) → has s j ≡ true → has (with_member s i) j ≡ true
+has_more s i j h = has_with s i j ∙ or_left _ _ h
+
+pub with_small : (s k : ℕ) → s < 2 ^ k → k < limit → with_member s k < 2 ^ (k + 1)
+with_small s k small lt = with_below s k (with_member s k) (k + 1) small lt refl refl
+
+module _ (s : Sheet) where
+  pub owned_at : (k : ℕ) → k < length (vec_items s.clauses) → has s.present (clause_at (vec_items s.clauses) k).owner ≡ true
+  owned_at = s.owned
+
+  pub known_at : (k : ℕ) → k < length (vec_items s.clauses) → within (clause_at (vec_items s.clauses) k).members s.present ≡ true
+  known_at = s.known
+
+  pub among_at : (i : ℕ) → within (row (vec_items s.conflicts) i) s.present ≡ true
+  among_at = s.among
+
+  pub mutual_at : (i j : ℕ) → has (row (vec_items s.conflicts) j) i ≡ true → has (row (vec_items s.conflicts) i) j ≡ true
+  mutual_at i j = s.«mutual» j i
+
+  pub irreflexive_at : (i : ℕ) → has (row (vec_items s.conflicts) i) i ≡ false
+  irreflexive_at = s.irreflexive
+
+pub ruleset growing = (owned_at, known_at, among_at, mutual_at, irreflexive_at, row_grown, within_with, has_more, with_small, with_is)
 
 pub grown_as : (m : SheetModel) (n p : ℕ) (table : List ℕ) → n ≡ m.size + 1 → p ≡ bit_or m.present (2 ^ m.size) → table ≡ m.conflicts ++ 0 ∷ [] → (record { size = n; present = p; clauses = m.clauses; conflicts = table }) ≡ grown m
 grown_as m n p table a b c = cc

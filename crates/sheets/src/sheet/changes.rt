@@ -28,6 +28,7 @@ impl Sheet {
     }
 
     /// One more component, and its number; too-many past the limit.
+    #[tactic(auto, using(crate::proofs::Forms::growing))]
     pub fn add_component(&mut self) -> Result<usize, Refusal>
         ensures { Goes (component_added (model self.old)) (model self.old).size result (model self.old) (model self.new) }
     {

@@ -75,6 +75,7 @@ impl Sheet {
     }
 
     /// The owners of the clauses that have no member in a set.
+    #[tactic(auto, using(crate::proofs::Feeding::collecting))]
     fn unmet(&self, set: ComponentSet) -> ComponentSet
         ensures { result ≡ unmet (model self.now).clauses set }
     {

@@ -57,8 +57,8 @@ pub blank_rows : (i : ℕ) → row [] i ≡ 0
 blank_rows zero = refl
 blank_rows (suc i) = refl
 
-pub blank_among : (p i : ℕ) → within (row [] i) p ≡ true
-blank_among p i = ap (λ s. within s p) (blank_rows i) ∙ (decides_sub 0 p).1 (sub_none p)
+pub blank_among : (table : List ℕ) (p i : ℕ) → table ≡ [] → within (row table i) p ≡ true
+blank_among table p i none = ap (λ (t : List ℕ). within (row t i) p) none ∙ ap (λ s. within s p) (blank_rows i) ∙ (decides_sub 0 p).1 (sub_none p)
 
 -- ---- one more component
 
@@ -68,15 +68,6 @@ row_grown [] (suc i) = blank_rows i
 row_grown (r ∷ rs) zero = refl
 row_grown (r ∷ rs) (suc i) = row_grown rs i
 
--- what the code makes of the table
-pub row_pushed : (xs ys : List ℕ) (x : ℕ) → ys ≡ xs ++ x ∷ [] → x ≡ 0 → (i : ℕ) → row ys i ≡ row xs i
-row_pushed xs ys x q z i = ap (λ (t : List ℕ). row t i) (q ∙ ap (λ (n : ℕ). xs ++ n ∷ []) z) ∙ row_grown xs i
-
-pub with_below : (s k r n : ℕ) → s < 2 ^ k → k < limit → r ≡ with_member s k → n ≡ k + 1 → r < 2 ^ n
-with_below s k r n small lt e at =
-    let one_more : 2 ^ n ≡ 2 ^ k + 2 ^ k = ap (λ j. 2 ^ j) (at ∙ add-one k) ∙ omega (arith, pow-suc 2 k) in
-    subst (λ t. t < 2 ^ n) (with_is s k lt ∙ sym e) (or_lt n s (2 ^ k) (omega (arith, one_more)) (omega (arith, one_more)))
-
 pub within_with : (a s i : ℕ) → within a s ≡ true → within a (with_member s i) ≡ true
 within_with a s i h = within_more a s (with_member s i) (λ j g. has_with s i j ∙ or_left _ _ g) h
 
@@ -84,28 +75,11 @@ pub has_more : (s i j : ℕ) → has s j ≡ true → has (with_member s i) j �
 has_more s i j h = has_with s i j ∙ or_left _ _ h
 
 pub with_small : (s k : ℕ) → s < 2 ^ k → k < limit → with_member s k < 2 ^ (k + 1)
-with_small s k small lt = with_below s k (with_member s k) (k + 1) small lt refl refl
+with_small s k small lt =
+    let one_more : 2 ^ (k + 1) ≡ 2 ^ k + 2 ^ k = ap (λ j. 2 ^ j) (add-one k) ∙ omega (arith, pow-suc 2 k) in
+    subst (λ t. t < 2 ^ (k + 1)) (with_is s k lt) (or_lt (k + 1) s (2 ^ k) (omega (arith, one_more)) (omega (arith, one_more)))
 
-module _ (s : Sheet) where
-  pub owned_at : (k : ℕ) → k < length (vec_items s.clauses) → has s.present (clause_at (vec_items s.clauses) k).owner ≡ true
-  owned_at = s.owned
-
-  pub known_at : (k : ℕ) → k < length (vec_items s.clauses) → within (clause_at (vec_items s.clauses) k).members s.present ≡ true
-  known_at = s.known
-
-  pub among_at : (i : ℕ) → within (row (vec_items s.conflicts) i) s.present ≡ true
-  among_at = s.among
-
-  pub mutual_at : (i j : ℕ) → has (row (vec_items s.conflicts) j) i ≡ true → has (row (vec_items s.conflicts) i) j ≡ true
-  mutual_at i j = s.«mutual» j i
-
-  pub irreflexive_at : (i : ℕ) → has (row (vec_items s.conflicts) i) i ≡ false
-  irreflexive_at = s.irreflexive
-
-pub ruleset growing = (owned_at, known_at, among_at, mutual_at, irreflexive_at, row_grown, within_with, has_more, with_small, with_is)
-
-pub grown_as : (m : SheetModel) (n p : ℕ) (table : List ℕ) → n ≡ m.size + 1 → p ≡ bit_or m.present (2 ^ m.size) → table ≡ m.conflicts ++ 0 ∷ [] → (record { size = n; present = p; clauses = m.clauses; conflicts = table }) ≡ grown m
-grown_as m n p table a b c = cc
+pub ruleset growing = (row_grown, within_with, has_more, with_small, with_is)
 
 -- ---- more conflicts
 

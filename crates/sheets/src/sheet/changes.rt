@@ -15,6 +15,7 @@ impl Sheet {
     pub const MAX_CLAUSES: usize = 512;
 
     /// The sheet without components, with room for all that it may come to hold.
+    #[tactic(auto, using(crate::proofs::Forms::blank_among))]
     pub fn new(heap: Global) -> Result<Sheet, AllocError>
         ensures { IfOk result (λ s. model s ≡ blank) }
     {

@@ -1,23 +1,21 @@
 -- What every sheet keeps, and that each change keeps it.
 use Rattle.std.proofs.Common.{◌≡◌, ℕ, zero, suc, ◌+◌, ◌^◌, ◌<◌, ◌≤◌, Bool, true, false, ◌&&◌, ◌||◌, eqb, List, [], ◌∷◌, ◌++◌, length, get_or, vec_items, vec_len, Vec, sym, refl, ap, ◌∙◌, subst, inl, inr, pow-suc, add-one, arith}
-use lib.Bits.{bit_or}
 use Rattle.std.specs.Vec.{with_items}
 use Rattle.std.specs.declared.alloc.Global.{Global}
 use Rattle.std.specs.Cmp.{both_ways as same_tests}
 use Rattle.std.proofs.lemmas.Nat.{or_lt}
 use Rattle.std.proofs.lemmas.List.FromFn.{get_or-map-range_with_len, length-map-range_with_len, fill_by_all}
-use Rattle.std.proofs.lemmas.List.{get_or_past, get_or_read, with_items_is}
-use Rattle.std.proofs.lemmas.Bool.{cases_Bool, cases_lt, both_ways, eq-eqb, eqb-true, and_from, and_parts, and_left, and_right, or_left, or_right, or_cases}
+use Rattle.std.proofs.lemmas.List.{get_or_past, with_items_is}
+use Rattle.std.proofs.lemmas.Bool.{cases_Bool, cases_lt, both_ways, eq-eqb, eqb-true, and_from, and_parts, or_left, or_right, or_cases}
 use Rattle.std.proofs.lemmas.Bool.Decides.{nat_tests}
 use Rattle.sets.specs.Limit.{limit}
 use Rattle.sets.specs.Sets.{has, Has, Subset, within, with_member}
 use Rattle.sets.proofs.Membership.{has_empty, has_or, has_with, has_above, has_below, has_collect, with_is}
 use Rattle.sets.proofs.Loops.{collect_with, collect_without}
 use Rattle.sets.proofs.Order.{decides_sub, sub_none}
-use Rattle.sheets.specs.Clauses.{no_clause, clause_at, row, Among, Mutual, Irreflexive}
+use Rattle.sheets.specs.Clauses.{clause_at, row, Among, Mutual, Irreflexive}
 use Rattle.sheets.specs.Sheets.{SheetModel, model, Formed}
-use Rattle.sheets.specs.Changes.{grown, opposed_set, opposed_row, opposed}
-use Rattle.sheets.specs.declared.clause.Clause.{Clause}
+use Rattle.sheets.specs.Changes.{opposed_set, opposed_row, opposed}
 use Rattle.sheets.specs.declared.sheet.Sheet.{Sheet}
 
 pub formed : (s : Sheet) → Formed (model s)

@@ -1,27 +1,17 @@
 -- The support is closed under needs, and holds every such set.
-use Rattle.std.proofs.Common.{◌≡◌, ℕ, zero, suc, ◌<◌, ◌≤◌, false, ◌&&◌, eqb, ltb, ◌⊎◌, List, sym, refl, ap, ◌∙◌, subst, inl, inr, arith}
+use Rattle.std.proofs.Common.{◌≡◌, ℕ, zero, suc, ◌<◌, ◌≤◌, ◌⊎◌, List, sym, refl, ap, ◌∙◌, subst, inl, inr, arith}
 use lib.Bits.{bit_or}
 use lib.Count.{ones, ones-le}
-use Rattle.std.proofs.lemmas.Bool.{cases_Bool, cases_eq, both_ways, lt-ltb, and_left, and_right}
-use Rattle.sets.specs.Sets.{has, Has, Subset, Apart}
-use Rattle.sets.proofs.Membership.{collect_lt, has_collect, minus_split}
+use Rattle.std.proofs.lemmas.Bool.{cases_Bool, cases_eq, both_ways}
+use Rattle.sets.specs.Sets.{has, Subset, Apart}
+use Rattle.sets.proofs.Membership.{collect_lt, minus_split}
 use Rattle.sets.proofs.Order.{sub_refl, sub_or_both, sub_minus, in_minus, minus_in, sub_antisym}
 use Rattle.sets.proofs.Counts.{ones_grows, ones_without}
-use Rattle.sheets.specs.Sheets.{SheetModel, Formed, conflicts_of}
-use Rattle.sheets.specs.Health.{Fed, is_clear, clear}
+use Rattle.sheets.specs.Sheets.{SheetModel}
+use Rattle.sheets.specs.Health.{Fed, clear}
 use Rattle.sheets.specs.Support.{Supported, unmet, narrowed, rounds, support}
 use Rattle.sheets.specs.declared.clause.Clause.{Clause}
-use Rattle.sheets.proofs.Forms.{present_below}
 use Rattle.sheets.proofs.Feeding.{fed_more, fed_apart, apart_fed}
-
--- the members of the set of clear components
-pub has_clear : (m : SheetModel) → Formed m → (i : ℕ) → has (clear m) i ≡ is_clear m.present m.conflicts i
-unfolding clear
-has_clear m w i = has_collect (is_clear m.present m.conflicts) m.size i ∙ go (cases_Bool (has m.present i))
-  where
-    go : Has m.present i ⊎ (has m.present i ≡ false) → (ltb i m.size && is_clear m.present m.conflicts i) ≡ is_clear m.present m.conflicts i
-    go (inl e) = ap (λ t. t && is_clear m.present m.conflicts i) (lt-ltb i m.size (present_below m w i e))
-    go (inr e) = let n = and_left (has m.present i) (eqb (conflicts_of m i) 0) e in and_right (ltb i m.size) (is_clear m.present m.conflicts i) n ∙ sym n
 
 -- ---- one round
 

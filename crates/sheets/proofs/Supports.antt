@@ -1,27 +1,17 @@
 -- The support is closed under needs, and holds every such set.
-use Rattle.std.proofs.Common.{◌≡◌, ℕ, zero, suc, ◌<◌, ◌≤◌, false, ◌&&◌, eqb, ltb, ◌⊎◌, List, sym, refl, ap, ◌∙◌, subst, inl, inr, arith}
+use Rattle.std.proofs.Common.{◌≡◌, ℕ, zero, suc, ◌<◌, ◌≤◌, ◌⊎◌, List, sym, refl, ap, ◌∙◌, subst, inl, inr, arith}
 use lib.Bits.{bit_or}
 use lib.Count.{ones, ones-le}
-use Rattle.std.proofs.lemmas.Bool.{cases_Bool, cases_eq, both_ways, lt-ltb, and_left, and_right}
-use Rattle.sets.specs.Sets.{has, Has, Subset, Apart}
-use Rattle.sets.proofs.Membership.{collect_lt, has_collect, minus_split}
+use Rattle.std.proofs.lemmas.Bool.{cases_Bool, cases_eq, both_ways}
+use Rattle.sets.specs.Sets.{has, Subset, Apart}
+use Rattle.sets.proofs.Membership.{collect_lt, minus_split}
 use Rattle.sets.proofs.Order.{sub_refl, sub_or_both, sub_minus, in_minus, minus_in, sub_antisym}
 use Rattle.sets.proofs.Counts.{ones_grows, ones_without}
-use Rattle.sheets.specs.Sheets.{SheetModel, Formed, conflicts_of}
-use Rattle.sheets.specs.Health.{Fed, is_clear, clear}
+use Rattle.sheets.specs.Sheets.{SheetModel}
+use Rattle.sheets.specs.Health.{Fed, clear}
 use Rattle.sheets.specs.Support.{Supported, unmet, narrowed, rounds, support}
 use Rattle.sheets.specs.declared.clause.Clause.{Clause}
-use Rattle.sheets.proofs.Forms.{present_below}
 use Rattle.sheets.proofs.Feeding.{fed_more, fed_apart, apart_fed}
-
--- the members of the set of clear components
-pub has_clear : (m : SheetModel) → Formed m → (i : ℕ) → has (clear m) i ≡ is_clear m.present m.conflicts i
-unfolding clear
-has_clear m w i = has_collect (is_clear m.present m.conflicts) m.size i ∙ go (cases_Bool (has m.present i))
-  where
-    go : Has m.present i ⊎ (has m.present i ≡ false) → (ltb i m.size && is_clear m.present m.conflicts i) ≡ is_clear m.present m.conflicts i
-    go (inl e) = ap (λ t. t && is_clear m.present m.conflicts i) (lt-ltb i m.size (present_below m w i e))
-    go (inr e) = let n = and_left (has m.present i) (eqb (conflicts_of m i) 0) e in and_right (ltb i m.size) (is_clear m.present m.conflicts i) n ∙ sym n
 
 -- ---- one round
 
@@ -97,19 +87,20 @@ module _ (m : SheetModel) where
   unfolding support
   support_greatest x q c = rounds_hold m.size m.clauses x q (clear m) c.closed c.clears
 
-  -- it grows with the set
-  pub support_grows : (x y : ℕ) → Subset x y → Subset (support m x) (support m y)
-  support_grows x y s =
-      support_greatest y (support m x)
-      (record {
-        clears = support_clear x;
-        closed = fed_more m.clauses (support m x) (bit_or x (support m x)) (bit_or y (support m x)) (sub_or_both x (support m x) y (support m x) s (sub_refl (support m x))) (support_fed x);
-      })
+-- what the narrowing keeps: q lies between the support and the clear components
+pub record Narrowing (m : SheetModel) (x q : ℕ) : Type 0 where
+  pub clears : Subset q (clear m)
+  pub holds : Subset (support m x) q
 
-  -- it alone is closed and holds every closed set
-  pub support_only : (x q : ℕ) → Supported m x q → ((p : ℕ) → Supported m x p → Subset p q) → q ≡ support m x
-  support_only x q c g = sub_antisym q (support m x) (support_greatest x q c) (g (support m x) (support_closed x))
+module _ (m : SheetModel) (x q : ℕ) where
+  pub narrowing_starts : q ≡ clear m → Narrowing m x q
+  narrowing_starts e = record { clears = λ i h. ap (λ s. has s i) (sym e) ∙ h; holds = λ i h. ap (λ s. has s i) e ∙ (support_closed m x).clears i h }
 
-  -- a closed set that holds the support is the support: where the narrowing ends
-  pub support_is : (x q : ℕ) → Subset q (clear m) → Subset (support m x) q → narrowed m.clauses x q ≡ q → q ≡ support m x
-  support_is x q c s e = sub_antisym q (support m x) (support_greatest x q (record { clears = c; closed = narrowed_stays m.clauses x q e })) s
+  pub narrowing_goes_on : Narrowing m x q → Narrowing m x (narrowed m.clauses x q)
+  narrowing_goes_on n = record {
+    clears = λ i h. n.clears i (narrowed_less m.clauses x q i h);
+    holds = narrowed_holds m.clauses x (support m x) q (support_closed m x).closed n.holds;
+  }
+
+  pub narrowing_ends : Narrowing m x q → narrowed m.clauses x q ≡ q → q ≡ support m x
+  narrowing_ends n e = sub_antisym q (support m x) (support_greatest m x q (record { clears = n.clears; closed = narrowed_stays m.clauses x q e })) n.holds

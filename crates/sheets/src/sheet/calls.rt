@@ -59,6 +59,7 @@ impl Sheet {
     }
 
     /// What a component conflicts with, or no-component.
+    #[tactic(auto, using(crate::proofs::Forms::absent_past))]
     pub fn conflicts(&self, component: usize) -> Result<ComponentSet, Refusal>
         ensures { result ≡ opponents (model self.now) component }
     {

@@ -15,6 +15,7 @@ impl Sheet {
     pub const MAX_CLAUSES: usize = 512;
 
     /// The sheet without components, with room for all that it may come to hold.
+    #[tactic(auto, using(crate::proofs::Forms::blank_among))]
     pub fn new(heap: Global) -> Result<Sheet, AllocError>
         ensures { IfOk result (λ s. model s ≡ blank) }
     {
@@ -28,6 +29,7 @@ impl Sheet {
     }
 
     /// One more component, and its number; too-many past the limit.
+    #[tactic(auto, using(crate::proofs::Forms::growing))]
     pub fn add_component(&mut self) -> Result<usize, Refusal>
         ensures { Goes (component_added (model self.old)) (model self.old).size result (model self.old) (model self.new) }
     {

@@ -14,6 +14,7 @@ use sets::ComponentSet;
 
 impl Sheet {
     /// Whether a set is a healthy installation: all present, every need met, and no conflict.
+    #[tactic(auto, using(crate::proofs::Feeding::fed_apart, crate::proofs::Feeding::apart_fed, crate::proofs::Forms::absent_past))]
     pub fn is_healthy(&self, set: ComponentSet) -> bool
         ensures { Decides result (Healthy (model self.now) set) }
     {
@@ -32,6 +33,7 @@ impl Sheet {
     }
 
     /// The components that conflict with none.
+    #[tactic(auto, using(crate::proofs::Forms::clearing), unfolding(sets::specs::Sets::collect, crate::specs::Health::clear))]
     pub fn clear_components(&self) -> ComponentSet
         ensures value { result ≡ clear (model self.now) }
         ensures members { (i : ℕ) → has result i ≡ is_clear (model self.now).present (model self.now).conflicts i }
@@ -46,6 +48,7 @@ impl Sheet {
     }
 
     /// The support of a set: the greatest set of clear components each of whose needs is met by the set or by itself.
+    #[tactic(auto, using(crate::proofs::Supports::narrowed_lower, crate::proofs::Supports::support_greatest))]
     pub fn support(&self, set: ComponentSet) -> ComponentSet
         ensures value { result ≡ support (model self.now) set }
         ensures closed { Supported (model self.now) set result }
@@ -62,6 +65,7 @@ impl Sheet {
     }
 
     /// The free set: what the empty set supports. Components that need only one another are free where none of them conflicts.
+    #[tactic(auto, using(crate::proofs::Examples::examples), unfolding(crate::specs::Support::free))]
     pub fn free_set(&self) -> ComponentSet
         ensures value { result ≡ free (model self.now) }
         ensures rings { (q : ℕ) → Subset q (clear (model self.now)) → Fed (model self.now).clauses q q → Subset q result }
@@ -71,6 +75,7 @@ impl Sheet {
     }
 
     /// The owners of the clauses that have no member in a set.
+    #[tactic(auto, using(crate::proofs::Feeding::collecting))]
     fn unmet(&self, set: ComponentSet) -> ComponentSet
         ensures { result ≡ unmet (model self.now).clauses set }
     {
@@ -84,6 +89,7 @@ impl Sheet {
     }
 
     /// The candidates each of whose needs is met by the set or by the candidates.
+    #[tactic(auto, unfolding(crate::specs::Support::narrowed))]
     fn narrowed(&self, set: ComponentSet, candidates: ComponentSet) -> ComponentSet
         ensures { result ≡ narrowed (model self.now).clauses set candidates }
     {

@@ -49,7 +49,10 @@ fn print_health(rt: &impl Print, ground: &Sheet) -> io::Result<()> {
         ground.clear_components(),
         ground.free_set()
     )?;
-    println!(rt; "supported by 1 {:?}", ground.support(ComponentSet::from([1])))?;
+    println!(rt;
+        "supported by 1 {:?}",
+        ground.support(ComponentSet::from([1]))
+    )?;
     let both = ground.is_healthy(ComponentSet::from([0, 1]));
     let half = ground.is_healthy(ComponentSet::from([0]));
     let none = ground.is_healthy(ComponentSet::empty());
@@ -62,7 +65,10 @@ fn print_refusals(rt: &(impl Print + AllocGlobal)) -> anyhow::Result<()> {
     let mut catalogue = OpenCatalogue::new(rt.alloc())?;
     catalogue.add_components(ComponentSet::LIMIT)?;
     println!(rt; "{:?}", catalogue.add_component())?;
-    println!(rt; "{:?}", catalogue.add_need(ComponentSet::LIMIT, ComponentSet::from([0, 1])))?;
+    println!(rt;
+        "{:?}",
+        catalogue.add_need(ComponentSet::LIMIT, ComponentSet::from([0, 1]))
+    )?;
     println!(rt;
         "{:?} {:?}",
         catalogue.add_clash(0, ComponentSet::LIMIT),
@@ -77,7 +83,10 @@ fn print_refusals(rt: &(impl Print + AllocGlobal)) -> anyhow::Result<()> {
         catalogue.add_need(1, ComponentSet::from([2, 3]))?;
     }
     println!(rt; "{:?}", catalogue.add_need(1, ComponentSet::from([2, 3])))?;
-    println!(rt; "{:?}", catalogue.add_need(ComponentSet::LIMIT, ComponentSet::from([2, 3])))?;
+    println!(rt;
+        "{:?}",
+        catalogue.add_need(ComponentSet::LIMIT, ComponentSet::from([2, 3]))
+    )?;
     let closed = catalogue.close();
     println!(rt;
         "{:?} {:?} {:?}",

@@ -1,10 +1,12 @@
 -- How notes grow by a clause or by conflicts.
-use Rattle.std.proofs.Common.{◌≡◌, ℕ, ◌-◌, ◌<◌, List, [], ◌∷◌, ◌++◌, map, length, Ok, vec_items, sym, refl, ap, ◌∙◌, arith}
+use Rattle.std.proofs.Common.{◌≡◌, ℕ, ◌-◌, ◌<◌, List, [], ◌∷◌, ◌++◌, map, length, Ok, vec_items, sym, ap, ◌∙◌, arith}
 use Rattle.std.proofs.lemmas.List.{length-map, map_push, map-append}
+use Rattle.std.proofs.lemmas.Simd.{map-map}
 use Rattle.std.proofs.lemmas.Bool.{lt-ltb, cond-true}
 use Rattle.sheets.specs.Limits.{max_clauses}
 use Rattle.texts.specs.Spans.{stretch}
 use Rattle.texts.specs.declared.spans.Span.{Span}
+use Rattle.stanzas.specs.Tokens.{Mention}
 use Rattle.stanzas.specs.Spans.{mention}
 use Rattle.stanzas.specs.Notes.{NotesModel, owner_of, added}
 use Rattle.stanzas.specs.Views.{need_of, clash_of, clash_with, notes_of}
@@ -14,12 +16,10 @@ use Rattle.stanzas.specs.declared.notes.Clash.{Clash}
 use Rattle.stanzas.specs.declared.notes.Notes.{Notes}
 
 names_of : (text : List ℕ) (ns : List Span) → map (λ m. m.name) (map (mention text) ns) ≡ map (stretch text) ns
-names_of text [] = refl
-names_of text (n ∷ ns) = ap (λ l. stretch text n ∷ l) (names_of text ns)
+names_of text ns = map-map (λ (m : Mention). m.name) (mention text) ns
 
 clashes_of : (text : List ℕ) (p : ℕ) (ns : List Span) → map (λ m. record { owner = p; name = m.name }) (map (mention text) ns) ≡ map (clash_of text) (map (clash_with p) ns)
-clashes_of text p [] = refl
-clashes_of text p (n ∷ ns) = ap (λ l. clash_of text (clash_with p n) ∷ l) (clashes_of text p ns)
+clashes_of text p ns = map-map (λ (m : Mention). record { owner = p; name = m.name }) (mention text) ns ∙ sym (map-map (clash_of text) (clash_with p) ns)
 
 module _ (n : Notes) (clause : List Span) where
   abbrev text : List ℕ

@@ -1,14 +1,11 @@
 -- How the lines of a file go on from line to line, and what a line is.
 use Rattle.std.proofs.Common.{◌≡◌, ℕ, suc, ◌+◌, ◌<◌, ◌≤◌, Bool, true, false, cond, ◌&&◌, eqb, List, [], ◌∷◌, length, get_or, take, drop, sym, refl, ap, ◌∙◌, add-zero, arith}
 use Rattle.std.specs.List.{prefix_len}
-use Rattle.std.proofs.lemmas.List.{drop_more, drop-drop, drop_all, drop-take, get_or_past, length-drop, length-take}
+use Rattle.std.proofs.lemmas.List.{drop_more, drop-drop, drop_all, drop-take, get_or_past, length-take}
 use Rattle.std.proofs.lemmas.Bool.{and_from, and_left, and_right, eq-eqb, ne_eqb, cond-true, cond-false}
 use Rattle.texts.specs.Bytes.{blank, in_line, letter, in_label}
-use Rattle.stanzas.specs.Tokens.{tokens}
 use Rattle.stanzas.specs.Spans.{IsFront}
-use Rattle.stanzas.specs.Lines.{first_line, lines, label, field_of, heading_of, value_of, end_of}
-use Rattle.stanzas.specs.Views.{line_of}
-use Rattle.stanzas.specs.declared.lines.Line.{Line}
+use Rattle.stanzas.specs.Lines.{first_line, lines, label, field_of, heading_of}
 use Rattle.stanzas.specs.declared.lines.Heading.TheVariants.{Continued, Malformed}
 
 -- ---- what a line is
@@ -67,19 +64,6 @@ line_left bs i end h is =
     ∙ ap (λ s. record { place = i; text = first_line s } ∷ lines false (i + prefix_len in_line s + 1) (drop (prefix_len in_line s + 1) s)) (sym front)
     ∙ ap (λ s. record { place = i; text = first_line (drop i bs) } ∷ lines false (i + n + 1) s) (drop-drop (n + 1) i bs)
     ∙ (λ j. record { place = i; text = first_line (drop i bs) } ∷ lines false (e j) (drop (f j) bs))
-
--- ---- the line from a place on, up to the end of a text
-
-module _ (l : Line) where
-  pub line_end : end_of (line_of l) ≡ length l.text.now
-  line_end = omega (arith, l.inside, length-drop l.start l.text.now)
-
-  -- what follows the colon
-  pub line_value : (n : ℕ) → n ≡ l.start + prefix_len in_label (drop l.start l.text.now) → tokens false (n + 1) (drop (n + 1) l.text.now) ≡ value_of (line_of l)
-  line_value n is =
-      let k = label (drop l.start l.text.now) + 1 in
-      let at : n + 1 ≡ l.start + k = omega arith in
-      ap (λ i. tokens false i (drop i l.text.now)) at ∙ ap (tokens false (l.start + k)) (sym (drop-drop k l.start l.text.now))
 
 -- a front of a text is one up to its own end
 pub is_front : (text front : List ℕ) (end : ℕ) → end ≤ length text → front ≡ take end text → IsFront front text

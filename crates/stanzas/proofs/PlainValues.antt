@@ -1,6 +1,9 @@
 -- What is written out plainly in a value reads back: names, clauses and conflicts.
 use Rattle.std.proofs.Common.{◌≡◌, ℕ, suc, ◌+◌, ◌<◌, ◌≤◌, Bool, true, false, List, [], ◌∷◌, ◌++◌, map, length, drop, Ok, codes, Result, sym, refl, ap, ◌∙◌, one-add, arith}
 use Rattle.std.specs.List.{prefix_len, list_all}
+use Rattle.std.proofs.lemmas.List.Elements.{All-weaker}
+use Rattle.std.proofs.lemmas.List.Folds.{list_all-append}
+use Rattle.std.proofs.lemmas.List.Sums.{AllPass-from_list_all, list_all-from_AllPass}
 use Rattle.std.proofs.lemmas.List.{length_push, map_push, append-nil, append_assoc, take_at, drop_at}
 use Rattle.std.proofs.lemmas.Bool.{and_parts, and_from, lt-ltb, cond-true, false≢true}
 use Rattle.std.proofs.lemmas.Bool.Decides.{nat_tests}
@@ -24,14 +27,12 @@ module _ (t : ℕ → Bool) where
   all_lead (b ∷ s) rest h z = let p = and_parts _ _ h in cond-true _ _ _ p.0 ∙ one-add _ ∙ ap suc (all_lead s rest p.1 z)
 
   -- of two strings
-  pub every_append : (s u : List ℕ) → list_all t s ≡ true → list_all t u ≡ true → list_all t (s ++ u) ≡ true
-  every_append [] u h k = k
-  every_append (b ∷ s) u h k = let p = and_parts _ _ h in and_from _ _ p.0 (every_append s u p.1 k)
+  pub all_append : (s u : List ℕ) → list_all t s ≡ true → list_all t u ≡ true → list_all t (s ++ u) ≡ true
+  all_append s u h k = list_all-append t s u ∙ and_from _ _ h k
 
   -- they pass a weaker test
-  every_weaker : (u : ℕ → Bool) → ((b : ℕ) → t b ≡ true → u b ≡ true) → (s : List ℕ) → list_all t s ≡ true → list_all u s ≡ true
-  every_weaker u f [] h = refl
-  every_weaker u f (b ∷ s) h = let p = and_parts _ _ h in and_from _ _ (f b p.0) (every_weaker u f s p.1)
+  all_weaker : (u : ℕ → Bool) → ((b : ℕ) → t b ≡ true → u b ≡ true) → (s : List ℕ) → list_all t s ≡ true → list_all u s ≡ true
+  all_weaker u f s h = list_all-from_AllPass u s (All-weaker _ _ f s (AllPass-from_list_all t s h))
 
 -- ---- good names
 
@@ -47,10 +48,10 @@ good_bytes : (n : List ℕ) → good n ≡ true → list_all in_name n ≡ true
 good_bytes n h = (and_parts _ _ h).1
 
 good_runs : (n : List ℕ) → good n ≡ true → list_all in_run n ≡ true
-good_runs n h = every_weaker in_name in_run name_runs n (good_bytes n h)
+good_runs n h = all_weaker in_name in_run name_runs n (good_bytes n h)
 
 pub good_stays : (n : List ℕ) → good n ≡ true → list_all in_line n ≡ true
-good_stays n h = every_weaker in_name in_line name_stays n (good_bytes n h)
+good_stays n h = all_weaker in_name in_line name_stays n (good_bytes n h)
 
 -- before what is no part of a run, a good name is one token
 name_token : (p : ℕ) (n rest : List ℕ) → good n ≡ true → prefix_len in_run rest ≡ 0 → tokens false p (n ++ rest) ≡ Named (record { place = p; name = n }) ∷ tokens false (p + length n) rest

@@ -19,7 +19,7 @@ use Rattle.stanzas.specs.Files.{step, stanzas}
 use Rattle.stanzas.specs.Plain.{Entry, between, field_line, written, written_all, needs_from, clashes_from, all_good, all_choices, good_entry, good_entries, Distinct, ReadsBack}
 use Rattle.stanzas.specs.declared.lines.Stanza.{Stanza}
 use Rattle.stanzas.proofs.LineByLine.{line_first}
-use Rattle.stanzas.proofs.PlainValues.{all_lead, every_append, good_stays, name_last, needing, clashing, needs_read, clashes_read}
+use Rattle.stanzas.proofs.PlainValues.{all_lead, all_append, good_stays, name_last, needing, clashing, needs_read, clashes_read}
 
 -- ---- lines
 
@@ -48,7 +48,7 @@ Stays s = list_all in_line s ≡ true
 -- strings with a separator between them stay in a line where each of them does
 between_stays : (separator x : List ℕ) (xs : List (List ℕ)) → Stays separator → AllByRecursion Stays (x ∷ xs) → Stays (between separator (x ∷ xs))
 between_stays separator x [] h k = k.0
-between_stays separator x (y ∷ xs) h k = every_append in_line (x ++ separator) _ (every_append in_line x separator k.0 h) (between_stays separator y xs h k.1)
+between_stays separator x (y ∷ xs) h k = all_append in_line (x ++ separator) _ (all_append in_line x separator k.0 h) (between_stays separator y xs h k.1)
 
 -- good names do, and clauses of them
 names_stay : (ns : List (List ℕ)) → all_good ns ≡ true → AllByRecursion Stays ns

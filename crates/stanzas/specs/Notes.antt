@@ -36,8 +36,6 @@ start = record { names = []; needs = []; clashes = []; stanza = None }
 abbrev pub with_stanza : NotesModel → Option Stanza → NotesModel
 with_stanza n s = record { names = n.names; needs = n.needs; clashes = n.clashes; stanza = s }
 
--- ---- faults
-
 -- go on with what was read, or give its fault
 abbrev pub and_then : {X Y : Type 0} → Result X Fault → (X → Result Y Fault) → Result Y Fault
 and_then (Ok x) f = f x

@@ -129,7 +129,7 @@ impl<'a> Line<'a> {
 }
 
 /// The lines of a text that are still to come.
-#[derive(Clone, Copy, Debug)]
+#[derive(Debug, Drop)]
 pub(crate) struct Lines<'a> {
     pub(crate) text: &'a [u8],
     pub(crate) at: usize,

@@ -35,10 +35,10 @@ impl<'a> Notes<'a> {
     {
         let place = name.start;
         if find(self.text, self.names.as_slice(), name.of(self.text)).is_some() {
-            return Err(ReadError::Refused(Fault::new(Refusal::NameTwice, Layer::File, place)));
+            return Err(Fault::new(Refusal::NameTwice, Layer::File, place).into());
         }
         if self.names.len() >= ComponentSet::LIMIT {
-            return Err(ReadError::Refused(Fault::new(Refusal::TooMany, Layer::File, place)));
+            return Err(Fault::new(Refusal::TooMany, Layer::File, place).into());
         }
         self.names.push(name)?;
         self.stanza = Some(Stanza::default());
@@ -61,7 +61,7 @@ impl<'a> Notes<'a> {
     {
         if self.needs.len() >= Sheet::MAX_CLAUSES {
             let place = names.first().map_or(0, |name| name.start);
-            return Err(ReadError::Refused(Fault::new(Refusal::TableFull, Layer::Field, place)));
+            return Err(Fault::new(Refusal::TableFull, Layer::Field, place).into());
         }
         let owner = self.names.len().saturating_sub(1);
         self.needs.push(Need { owner, names })?;

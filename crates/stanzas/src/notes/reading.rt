@@ -24,11 +24,7 @@ impl<'a> Notes<'a> {
         ensures plain { ReadsBack }
     {
         if text.len() > Self::MAX_BYTES {
-            return Err(ReadError::Refused(Fault::new(
-                Refusal::TooLong,
-                Layer::File,
-                Self::MAX_BYTES,
-            )));
+            return Err(Fault::new(Refusal::TooLong, Layer::File, Self::MAX_BYTES).into());
         }
         let mut notes = Notes::new(heap, text);
         for line in (Lines { text, at: 0 }) {
@@ -57,18 +53,10 @@ impl<'a> Notes<'a> {
             }
             (Heading::Continued, Some(stanza)) if stanza.skipping => {}
             (Heading::Package | Heading::Related(_) | Heading::Skipped, _) => {
-                return Err(ReadError::Refused(Fault::new(
-                    Refusal::StrayField,
-                    Layer::File,
-                    line.start,
-                )));
+                return Err(Fault::new(Refusal::StrayField, Layer::File, line.start).into());
             }
             (Heading::Continued | Heading::Malformed, _) => {
-                return Err(ReadError::Refused(Fault::new(
-                    Refusal::BadLine,
-                    Layer::File,
-                    line.start,
-                )));
+                return Err(Fault::new(Refusal::BadLine, Layer::File, line.start).into());
             }
         }
         Ok(())

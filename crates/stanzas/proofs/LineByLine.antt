@@ -1,14 +1,11 @@
 -- How the lines of a file go on from line to line, and what a line is.
-use Rattle.std.proofs.Common.{◌≡◌, ℕ, suc, ◌+◌, ◌-◌, ◌<◌, ◌≤◌, Bool, true, false, cond, ◌&&◌, eqb, List, [], ◌∷◌, length, get_or, take, drop, sym, refl, ap, ◌∙◌, add-zero, arith}
+use Rattle.std.proofs.Common.{◌≡◌, ℕ, suc, ◌+◌, ◌<◌, ◌≤◌, Bool, true, false, cond, ◌&&◌, eqb, List, [], ◌∷◌, length, get_or, take, drop, sym, refl, ap, ◌∙◌, add-zero, arith}
 use Rattle.std.specs.List.{prefix_len}
-use Rattle.std.proofs.lemmas.List.{drop_more, drop-drop, drop_all, drop-take, get_or_past, length-drop, length-take}
+use Rattle.std.proofs.lemmas.List.{drop_more, drop-drop, drop_all, drop-take, get_or_past, length-take}
 use Rattle.std.proofs.lemmas.Bool.{and_from, and_left, and_right, eq-eqb, ne_eqb, cond-true, cond-false}
 use Rattle.texts.specs.Bytes.{blank, in_line, letter, in_label}
-use Rattle.texts.specs.Spans.{stretch}
-use Rattle.texts.specs.declared.spans.Span.{Span}
-use Rattle.stanzas.specs.Tokens.{tokens}
-use Rattle.stanzas.specs.Lines.{first_line, lines, label, field_of, heading_of, value_of, end_of}
-use Rattle.stanzas.specs.Views.{line_at}
+use Rattle.stanzas.specs.Spans.{IsFront}
+use Rattle.stanzas.specs.Lines.{first_line, lines, label, field_of, heading_of}
 use Rattle.stanzas.specs.declared.lines.Heading.TheVariants.{Continued, Malformed}
 
 -- ---- what a line is
@@ -21,11 +18,10 @@ module _ (s : List ℕ) (n : ℕ) (some : 0 < length s) (is : n ≡ 0 + prefix_l
   long : n ≡ label s
   long = omega arith
 
-  pub field_heading : letter (get_or s 0 0) ≡ true → get_or s n 0 ≡ 58 → heading_of s ≡ field_of (take (n - 0) s)
+  pub field_heading : letter (get_or s 0 0) ≡ true → get_or s n 0 ≡ 58 → heading_of s ≡ field_of (take n s)
   field_heading a c =
-      let e : n - 0 ≡ n = omega arith in
       let colon : eqb (get_or s (label s) 0) 58 ≡ true = eq-eqb _ _ (ap (λ k. get_or s k 0) (sym long) ∙ c) in
-      heading_some s some ∙ cond-false _ _ _ solid ∙ cond-true _ _ _ (and_from _ _ a colon) ∙ ap (λ k. field_of (take k s)) (sym (e ∙ long))
+      heading_some s some ∙ cond-false _ _ _ solid ∙ cond-true _ _ _ (and_from _ _ a colon) ∙ ap (λ k. field_of (take k s)) (sym long)
 
   pub malformed_start : letter (get_or s 0 0) ≡ false → heading_of s ≡ Malformed
   malformed_start a = heading_some s some ∙ cond-false _ _ _ solid ∙ cond-false _ _ _ (and_left _ _ a)
@@ -69,17 +65,15 @@ line_left bs i end h is =
     ∙ ap (λ s. record { place = i; text = first_line (drop i bs) } ∷ lines false (i + n + 1) s) (drop-drop (n + 1) i bs)
     ∙ (λ j. record { place = i; text = first_line (drop i bs) } ∷ lines false (e j) (drop (f j) bs))
 
--- ---- the line at a span of a text
+-- a front of a text is one up to its own end
+pub is_front : (text front : List ℕ) (end : ℕ) → end ≤ length text → front ≡ take end text → IsFront front text
+is_front text front end h e =
+    let n : end ≡ length front = omega (arith, ap length e, length-take end text) in
+    e ∙ ap (λ k. take k text) n
 
-module _ (text : List ℕ) (s : Span) (forward : s.start ≤ s.end) where
-  pub line_end : s.end ≤ length text → s.end ≡ end_of (line_at text s)
-  line_end h = omega (arith, length-take (s.end - s.start) (drop s.start text), length-drop s.start text)
-
-  -- what follows the colon
-  pub line_value : (n : ℕ) → n ≡ 0 + prefix_len in_label (stretch text s) → tokens false (s.start + n + 1) (drop (s.start + n + 1) (take s.end text)) ≡ value_of (line_at text s)
-  line_value n is =
-      let k = label (stretch text s) + 1 in
-      let at : s.start + n + 1 ≡ s.start + k = omega arith in
-      let long : s.end ≡ s.start + (s.end - s.start) = omega arith in
-      ap (λ i. tokens false i (drop i (take s.end text))) at
-      ∙ ap (tokens false (s.start + k)) (sym (drop-drop k s.start (take s.end text)) ∙ ap (drop k) (ap (λ e. drop s.start (take e text)) long ∙ drop-take s.start (s.end - s.start) text))
+-- the first of the lines that are left, and the others
+pub line_next : (text : List ℕ) (at end : ℕ) → at < length text → end ≡ at + prefix_len in_line (drop at text) → (front : List ℕ) → front ≡ take end text → lines false at (drop at text) ≡ record { place = at; text = drop at front } ∷ lines false (end + 1) (drop (end + 1) text)
+line_next text at end lt is front e =
+    let n = prefix_len in_line (drop at text) in
+    line_left text at end lt is
+    ∙ ap (λ s. record { place = at; text = s } ∷ lines false (end + 1) (drop (end + 1) text)) (sym (ap (drop at) (e ∙ ap (λ k. take k text) is) ∙ drop-take at n text))

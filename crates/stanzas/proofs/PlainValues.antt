@@ -1,11 +1,14 @@
 -- What is written out plainly in a value reads back: names, clauses and conflicts.
 use Rattle.std.proofs.Common.{◌≡◌, ℕ, suc, ◌+◌, ◌<◌, ◌≤◌, Bool, true, false, List, [], ◌∷◌, ◌++◌, map, length, drop, Ok, codes, Result, sym, refl, ap, ◌∙◌, one-add, arith}
-use Rattle.std.specs.List.{prefix_len}
+use Rattle.std.specs.List.{prefix_len, list_all}
+use Rattle.std.proofs.lemmas.List.Elements.{All-weaker}
+use Rattle.std.proofs.lemmas.List.Folds.{list_all-append}
+use Rattle.std.proofs.lemmas.List.Sums.{AllPass-from_list_all, list_all-from_AllPass}
 use Rattle.std.proofs.lemmas.List.{length_push, map_push, append-nil, append_assoc, take_at, drop_at}
 use Rattle.std.proofs.lemmas.Bool.{and_parts, and_from, lt-ltb, cond-true, false≢true}
 use Rattle.std.proofs.lemmas.Bool.Decides.{nat_tests}
 use Rattle.sheets.specs.Limits.{max_clauses}
-use Rattle.texts.specs.Bytes.{in_line, in_run, in_name, every, good}
+use Rattle.texts.specs.Bytes.{in_line, in_run, in_name, good}
 use Rattle.texts.specs.declared.faults.Fault.{Fault}
 use Rattle.stanzas.specs.Tokens.{Mention, Token, Named, Misnamed, run, named, tokens}
 use Rattle.stanzas.specs.Notes.{NotesModel, owner_of, and_then, added}
@@ -19,19 +22,17 @@ use Rattle.stanzas.proofs.Tokens.{at_run, run_skips}
 
 module _ (t : ℕ → Bool) where
   -- they lead up to what does not pass it
-  pub all_lead : (s rest : List ℕ) → every t s ≡ true → prefix_len t rest ≡ 0 → prefix_len t (s ++ rest) ≡ length s
+  pub all_lead : (s rest : List ℕ) → list_all t s ≡ true → prefix_len t rest ≡ 0 → prefix_len t (s ++ rest) ≡ length s
   all_lead [] rest h z = z
   all_lead (b ∷ s) rest h z = let p = and_parts _ _ h in cond-true _ _ _ p.0 ∙ one-add _ ∙ ap suc (all_lead s rest p.1 z)
 
   -- of two strings
-  pub every_append : (s u : List ℕ) → every t s ≡ true → every t u ≡ true → every t (s ++ u) ≡ true
-  every_append [] u h k = k
-  every_append (b ∷ s) u h k = let p = and_parts _ _ h in and_from _ _ p.0 (every_append s u p.1 k)
+  pub all_append : (s u : List ℕ) → list_all t s ≡ true → list_all t u ≡ true → list_all t (s ++ u) ≡ true
+  all_append s u h k = list_all-append t s u ∙ and_from _ _ h k
 
   -- they pass a weaker test
-  every_weaker : (u : ℕ → Bool) → ((b : ℕ) → t b ≡ true → u b ≡ true) → (s : List ℕ) → every t s ≡ true → every u s ≡ true
-  every_weaker u f [] h = refl
-  every_weaker u f (b ∷ s) h = let p = and_parts _ _ h in and_from _ _ (f b p.0) (every_weaker u f s p.1)
+  all_weaker : (u : ℕ → Bool) → ((b : ℕ) → t b ≡ true → u b ≡ true) → (s : List ℕ) → list_all t s ≡ true → list_all u s ≡ true
+  all_weaker u f s h = list_all-from_AllPass u s (All-weaker _ _ f s (AllPass-from_list_all t s h))
 
 -- ---- good names
 
@@ -43,14 +44,14 @@ name_stays : (b : ℕ) → in_name b ≡ true → in_line b ≡ true
 name_stays b h = grind (arith, nat_tests)
 
 -- so are all the bytes of a good name
-good_bytes : (n : List ℕ) → good n ≡ true → every in_name n ≡ true
+good_bytes : (n : List ℕ) → good n ≡ true → list_all in_name n ≡ true
 good_bytes n h = (and_parts _ _ h).1
 
-good_runs : (n : List ℕ) → good n ≡ true → every in_run n ≡ true
-good_runs n h = every_weaker in_name in_run name_runs n (good_bytes n h)
+good_runs : (n : List ℕ) → good n ≡ true → list_all in_run n ≡ true
+good_runs n h = all_weaker in_name in_run name_runs n (good_bytes n h)
 
-pub good_stays : (n : List ℕ) → good n ≡ true → every in_line n ≡ true
-good_stays n h = every_weaker in_name in_line name_stays n (good_bytes n h)
+pub good_stays : (n : List ℕ) → good n ≡ true → list_all in_line n ≡ true
+good_stays n h = all_weaker in_name in_line name_stays n (good_bytes n h)
 
 -- before what is no part of a run, a good name is one token
 name_token : (p : ℕ) (n rest : List ℕ) → good n ≡ true → prefix_len in_run rest ≡ 0 → tokens false p (n ++ rest) ≡ Named (record { place = p; name = n }) ∷ tokens false (p + length n) rest

@@ -1,7 +1,7 @@
 -- What is written out plainly is read back.
 use Rattle.std.proofs.Common.{◌≡◌, ℕ, suc, ◌+◌, ◌-◌, ◌<◌, ◌≤◌, Bool, true, false, cond, List, [], ◌∷◌, ◌++◌, map, length, take, drop, is_some, Some, None, Ok, codes, Option, Result, sym, refl, ap, ◌∙◌, arith}
 use lib.Seq.{take-append_seam, drop-append-add}
-use Rattle.std.specs.List.{AllByRecursion}
+use Rattle.std.specs.List.{AllByRecursion, list_all}
 use Rattle.std.specs.Str.{bytes_eq}
 use Rattle.std.proofs.lemmas.List.{append-nil, append_assoc, length-append, length-map, length_push}
 use Rattle.std.proofs.lemmas.Bool.{and_parts, cond-true, cond-false, lt-ltb, le-ltb, true≢false, false≢true}
@@ -9,22 +9,22 @@ use Rattle.std.proofs.lemmas.Slice.Eq.{bytes_eq-Decides}
 use Rattle.std.proofs.lemmas.Bool.Decides.{same_from_decides}
 use Rattle.sets.specs.Limit.{limit}
 use Rattle.sheets.specs.Limits.{max_clauses}
-use Rattle.texts.specs.Bytes.{in_line, every, good}
+use Rattle.texts.specs.Bytes.{in_line, good}
 use Rattle.texts.specs.Spans.{look_up}
 use Rattle.texts.specs.declared.faults.Fault.{Fault}
-use Rattle.stanzas.specs.Notes.{NotesModel, NeedModel, ClashModel, no_stanza, and_then}
+use Rattle.stanzas.specs.Notes.{NotesModel, NeedModel, ClashModel, and_then}
 use Rattle.stanzas.specs.Values.{single, alone}
 use Rattle.stanzas.specs.Lines.{lines, heading_of}
 use Rattle.stanzas.specs.Files.{step, stanzas}
 use Rattle.stanzas.specs.Plain.{Entry, between, field_line, written, written_all, needs_from, clashes_from, all_good, all_choices, good_entry, good_entries, Distinct, ReadsBack}
 use Rattle.stanzas.specs.declared.lines.Stanza.{Stanza}
 use Rattle.stanzas.proofs.LineByLine.{line_first}
-use Rattle.stanzas.proofs.PlainValues.{all_lead, every_append, good_stays, name_last, needing, clashing, needs_read, clashes_read}
+use Rattle.stanzas.proofs.PlainValues.{all_lead, all_append, good_stays, name_last, needing, clashing, needs_read, clashes_read}
 
 -- ---- lines
 
 -- up to its line feed, text is one line
-line_reads : (p : ℕ) (text rest : List ℕ) → every in_line text ≡ true → lines false p (text ++ 10 ∷ rest) ≡ record { place = p; text = text } ∷ lines false (p + length text + 1) rest
+line_reads : (p : ℕ) (text rest : List ℕ) → list_all in_line text ≡ true → lines false p (text ++ 10 ∷ rest) ≡ record { place = p; text = text } ∷ lines false (p + length text + 1) rest
 line_reads p [] rest h = line_first p 10 rest
 line_reads p (b ∷ s) rest h =
     let all = (b ∷ s) ++ 10 ∷ rest in
@@ -35,7 +35,7 @@ line_reads p (b ∷ s) rest h =
 
 -- a line is done, and reading goes on after it
 line_done : (m o : NotesModel) (p : ℕ) (text rest : List ℕ) (r : Result NotesModel Fault)
-    → every in_line text ≡ true → step m (record { place = p; text = text }) (heading_of text) ≡ Ok o → ((q : ℕ) → stanzas o (lines false q rest) ≡ r)
+    → list_all in_line text ≡ true → step m (record { place = p; text = text }) (heading_of text) ≡ Ok o → ((q : ℕ) → stanzas o (lines false q rest) ≡ r)
     → stanzas m (lines false p (text ++ 10 ∷ rest)) ≡ r
 line_done m o p text rest r h s k = ap (stanzas m) (line_reads p text rest h) ∙ ap (λ x. and_then x (λ n. stanzas n (lines false (p + length text + 1) rest))) s ∙ k _
 
@@ -43,12 +43,12 @@ line_done m o p text rest r h s k = ap (stanzas m) (line_reads p text rest h) �
 
 -- no line feed
 abbrev Stays : List ℕ → Type 0
-Stays s = every in_line s ≡ true
+Stays s = list_all in_line s ≡ true
 
 -- strings with a separator between them stay in a line where each of them does
 between_stays : (separator x : List ℕ) (xs : List (List ℕ)) → Stays separator → AllByRecursion Stays (x ∷ xs) → Stays (between separator (x ∷ xs))
 between_stays separator x [] h k = k.0
-between_stays separator x (y ∷ xs) h k = every_append in_line (x ++ separator) _ (every_append in_line x separator k.0 h) (between_stays separator y xs h k.1)
+between_stays separator x (y ∷ xs) h k = all_append in_line (x ++ separator) _ (all_append in_line x separator k.0 h) (between_stays separator y xs h k.1)
 
 -- good names do, and clauses of them
 names_stay : (ns : List (List ℕ)) → all_good ns ≡ true → AllByRecursion Stays ns
@@ -63,21 +63,21 @@ clauses_stay ((n ∷ ns) ∷ cs) h = let g = and_parts _ _ h in (between_stays (
 -- ---- a stanza
 
 -- the notes, by their parts
-abbrev said : List (List ℕ) → List NeedModel → List ClashModel → Stanza → NotesModel
+abbrev said : List (List ℕ) → List NeedModel → List ClashModel → Option Stanza → NotesModel
 said ns ds ks s = record { names = ns; needs = ds; clashes = ks; stanza = s }
 
 -- a stanza after its Package line, and whether it has had Depends and Conflicts
-abbrev after : Bool → Bool → Stanza
-after d c = record { named = true; depends = d; conflicts = c; skipping = false }
+abbrev after : Bool → Bool → Option Stanza
+after d c = Some (record { depends = d; conflicts = c; skipping = false })
 
 module _ (ns : List (List ℕ)) (ds : List NeedModel) (ks : List ClashModel) (p : ℕ) (rest : List ℕ) (r : Result NotesModel Fault) where
   -- a Package line: a new component
   package_reads : (n : List ℕ) → good n ≡ true → is_some (look_up 0 ns n) ≡ false → length ns < limit
       → ((q : ℕ) → stanzas (said (ns ++ n ∷ []) ds ks (after false false)) (lines false q rest) ≡ r)
-      → stanzas (said ns ds ks no_stanza) (lines false p ((codes "Package: " ++ n) ++ 10 ∷ rest)) ≡ r
+      → stanzas (said ns ds ks None) (lines false p ((codes "Package: " ++ n) ++ 10 ∷ rest)) ≡ r
   package_reads n h new lt =
       let text = codes "Package: " ++ n in
-      let before = said ns ds ks no_stanza in
+      let before = said ns ds ks None in
       line_done before _ p text rest r (good_stays n h)
       (ap (single (p + length text) before) (name_last (p + 8 + 1) n h) ∙ ap (λ x. and_then x (alone [])) (cond-false _ _ _ new ∙ cond-true _ _ _ (lt-ltb _ _ lt)))
 
@@ -106,19 +106,19 @@ module _ (ns : List (List ℕ)) (ds : List NeedModel) (ks : List ClashModel) (p 
 -- the stanza of an entry, which is component i: its name, its clauses and its conflicts are added
 stanza_reads : (i : ℕ) (ns : List (List ℕ)) (ds : List NeedModel) (ks : List ClashModel) (p : ℕ) (rest : List ℕ) (r : Result NotesModel Fault) (e : Entry)
     → length ns ≡ i → i < limit → good_entry e ≡ true → is_some (look_up 0 ns e.name) ≡ false → length ds + length e.needs ≤ max_clauses
-    → ((q : ℕ) → stanzas (said (ns ++ e.name ∷ []) (ds ++ map (λ names. record { owner = i; names = names }) e.needs) (ks ++ map (λ name. record { owner = i; name = name }) e.clashes) no_stanza) (lines false q rest) ≡ r)
-    → stanzas (said ns ds ks no_stanza) (lines false p (written e ++ rest)) ≡ r
+    → ((q : ℕ) → stanzas (said (ns ++ e.name ∷ []) (ds ++ map (λ names. record { owner = i; names = names }) e.needs) (ks ++ map (λ name. record { owner = i; name = name }) e.clashes) None) (lines false q rest) ≡ r)
+    → stanzas (said ns ds ks None) (lines false p (written e ++ rest)) ≡ r
 stanza_reads i ns ds ks p rest r e is lt h new room k =
     let names = ns ++ e.name ∷ [] in
     let owner : length names - 1 ≡ i = omega (arith, length_push ns e.name) in
     let g = and_parts _ _ h in
     let f = and_parts _ _ g.0 in
-    ap (λ s. stanzas (said ns ds ks no_stanza) (lines false p s)) (regroup (codes "Package: " ++ e.name) (codes "\n") (field_line (codes "Depends: ") (map (between (codes " | ")) e.needs)) (field_line (codes "Conflicts: ") e.clashes) (codes "\n") rest)
+    ap (λ s. stanzas (said ns ds ks None) (lines false p s)) (regroup (codes "Package: " ++ e.name) (codes "\n") (field_line (codes "Depends: ") (map (between (codes " | ")) e.needs)) (field_line (codes "Conflicts: ") e.clashes) (codes "\n") rest)
     ∙ package_reads ns ds ks p _ r e.name f.0 new (omega arith)
     (λ q. depends_reads names ds ks q _ r e.needs f.1 room
     (λ u d. conflicts_reads names _ ks u _ r d e.clashes g.1
     (λ v c. line_done (clashing (needing (said names ds ks (after d c)) e.needs) e.clashes) _ v [] rest r refl refl
-    (λ w. ap (λ o. stanzas (said names (ds ++ map (λ x. record { owner = o; names = x }) e.needs) (ks ++ map (λ x. record { owner = o; name = x }) e.clashes) no_stanza) (lines false w rest)) owner ∙ k w))))
+    (λ w. ap (λ o. stanzas (said names (ds ++ map (λ x. record { owner = o; names = x }) e.needs) (ks ++ map (λ x. record { owner = o; name = x }) e.clashes) None) (lines false w rest)) owner ∙ k w))))
   where
     regroup : (a b c d f g : List ℕ) → a ++ b ++ c ++ d ++ f ++ g ≡ a ++ (b ++ (c ++ (d ++ (f ++ g))))
     regroup a b c d f g = simp append_assoc
@@ -164,7 +164,7 @@ all_new (x ∷ xs) = (refl, all_new xs)
 -- the entries that are left, of which the first is component i
 entries_read : (es : List Entry) (i : ℕ) (ns : List (List ℕ)) (ds : List NeedModel) (ks : List ClashModel) (p : ℕ)
     → length ns ≡ i → good_entries es ≡ true → Distinct (map (λ e. e.name) es) → AllByRecursion (New ns) (map (λ e. e.name) es) → i + length es ≤ limit → length ds + length (needs_from i es) ≤ max_clauses
-    → stanzas (said ns ds ks no_stanza) (lines false p (written_all es)) ≡ Ok (said (ns ++ map (λ e. e.name) es) (ds ++ needs_from i es) (ks ++ clashes_from i es) no_stanza)
+    → stanzas (said ns ds ks None) (lines false p (written_all es)) ≡ Ok (said (ns ++ map (λ e. e.name) es) (ds ++ needs_from i es) (ks ++ clashes_from i es) None)
 entries_read [] i ns ds ks p is h apart new few room = simp append-nil
 entries_read (e ∷ es) i ns ds ks p is h apart new few room =
     let own : List (List ℕ) → NeedModel = λ names. record { owner = i; names = names } in

@@ -1,5 +1,5 @@
 -- Everything that is read is sound: kept from line to line.
-use Rattle.std.proofs.Common.{◌≡◌, ℕ, ◌+◌, ◌<◌, true, false, not, ◌&&◌, ltb, List, [], ◌∷◌, ◌++◌, map, length, is_some, Ok, Err, Result, sym, refl, subst, arith}
+use Rattle.std.proofs.Common.{◌≡◌, ℕ, ◌+◌, ◌<◌, true, false, ltb, List, [], ◌∷◌, ◌++◌, map, length, is_some, Some, None, Option, Ok, Err, Result, sym, refl, subst, arith}
 use Rattle.std.proofs.lemmas.List.{length_push}
 use Rattle.std.proofs.lemmas.Bool.{and_parts, and_from, cond_both, lt-ltb, ltb-true, true≢false}
 use Rattle.sets.specs.Limit.{limit}
@@ -9,8 +9,8 @@ use Rattle.texts.specs.declared.faults.Fault.{Fault}
 use Rattle.stanzas.specs.Tokens.{Mention, Token, Named, Misnamed, Comma, Bar}
 use Rattle.stanzas.specs.Notes.{NeedModel, ClashModel, NotesModel, start, with_stanza, with_name, and_then, owner_of, name_added, added}
 use Rattle.stanzas.specs.Values.{bars, alone, single, listed, related}
-use Rattle.stanzas.specs.Lines.{Line, lines, heading_of, value_of, end_of}
-use Rattle.stanzas.specs.Files.{has, with, step, stanzas, max_bytes, reading}
+use Rattle.stanzas.specs.Lines.{LineModel, lines, heading_of, value_of, end_of}
+use Rattle.stanzas.specs.Files.{has, with, step_in, step, stanzas, max_bytes, reading}
 use Rattle.stanzas.specs.Sound.{needs_owned, clashes_owned, Sound}
 use Rattle.stanzas.specs.declared.lines.Heading.{Heading}
 use Rattle.stanzas.specs.declared.lines.Heading.TheVariants.{Empty, Continued, Package, Related, Skipped, Malformed}
@@ -21,7 +21,7 @@ use Rattle.stanzas.specs.declared.lines.Stanza.{Stanza}
 -- a stanza that has its Package has a component
 record Read (n : NotesModel) : Type 0 where
   sound : Sound n
-  begun : n.stanza.named ≡ true → 0 < length n.names
+  begun : is_some n.stanza ≡ true → 0 < length n.names
 
 -- within a stanza that has its Package
 record Inside (n : NotesModel) : Type 0 where
@@ -72,7 +72,7 @@ clashes_more size (c ∷ cs) h =
 
 -- ---- one more name, clause or conflict
 
-restanza : (n : NotesModel) (s : Stanza) → Sound n → Sound (with_stanza n s)
+restanza : (n : NotesModel) (s : Option Stanza) → Sound n → Sound (with_stanza n s)
 restanza n s h = record { few = h.few; room = h.room; needs_have_owners = h.needs_have_owners; clashes_have_owners = h.clashes_have_owners }
 
 named : (n : NotesModel) (x : List ℕ) → Sound n → length n.names < limit → Inside (with_name n x)
@@ -146,20 +146,29 @@ related_keeps r e n (t ∷ ts) i = listed_keeps r e n [] (t ∷ ts) i
 
 -- ---- lines
 
-step_keeps : (n : NotesModel) (l : Line) (h : Heading) → Read n → Gives Read (step n l h)
-step_keeps n l Empty s = record { sound = restanza n _ s.sound; begun = λ e. absurd (true≢false (sym e)) }
-step_keeps n l Continued s = cond_both n.stanza.skipping _ _ (Gives Read) (λ e. s) (λ e. tt)
-step_keeps n l Package s = cond_both n.stanza.named _ _ (Gives Read) (λ e. tt) (λ e. weaker Inside Read (single (end_of l) n (value_of l)) read (single_keeps (end_of l) n (value_of l) s.sound))
-step_keeps n l (Related r) s =
-    cond_both (n.stanza.named && not (has n.stanza r)) _ _ (Gives Read)
-    (λ e. let m = with_stanza n (with n.stanza r) in
-    let i : Inside m = record { sound = restanza n _ s.sound; some = s.begun (and_parts n.stanza.named (not (has n.stanza r)) e).0 } in
+-- between two stanzas, and in one
+in_keeps : (t : Option Stanza) (n : NotesModel) (l : LineModel) (h : Heading) → is_some t ≡ is_some n.stanza → Read n → Gives Read (step_in t n l h)
+in_keeps None n l Empty e s = record { sound = restanza n _ s.sound; begun = λ b. absurd (true≢false (sym b)) }
+in_keeps None n l Continued e s = tt
+in_keeps None n l Package e s = weaker Inside Read (single (end_of l) n (value_of l)) read (single_keeps (end_of l) n (value_of l) s.sound)
+in_keeps None n l (Related r) e s = tt
+in_keeps None n l Skipped e s = tt
+in_keeps None n l Malformed e s = tt
+in_keeps (Some t) n l Empty e s = record { sound = restanza n _ s.sound; begun = λ b. absurd (true≢false (sym b)) }
+in_keeps (Some t) n l Continued e s = cond_both t.skipping _ _ (Gives Read) (λ f. s) (λ f. tt)
+in_keeps (Some t) n l Package e s = tt
+in_keeps (Some t) n l (Related r) e s =
+    cond_both (has t r) _ _ (Gives Read) (λ f. tt)
+    (λ f. let m = with_stanza n (Some (with t r)) in
+    let i : Inside m = record { sound = restanza n _ s.sound; some = s.begun (sym e) } in
     weaker Inside Read (related r (end_of l) m (value_of l)) read (related_keeps r (end_of l) m (value_of l) i))
-    (λ e. tt)
-step_keeps n l Skipped s = cond_both n.stanza.named _ _ (Gives Read) (λ e. record { sound = restanza n _ s.sound; begun = s.begun }) (λ e. tt)
-step_keeps n l Malformed s = tt
+in_keeps (Some t) n l Skipped e s = record { sound = restanza n _ s.sound; begun = λ b. s.begun (sym e) }
+in_keeps (Some t) n l Malformed e s = tt
 
-stanzas_keep : (n : NotesModel) (ls : List Line) → Read n → Gives Read (stanzas n ls)
+step_keeps : (n : NotesModel) (l : LineModel) (h : Heading) → Read n → Gives Read (step n l h)
+step_keeps n l h s = in_keeps n.stanza n l h refl s
+
+stanzas_keep : (n : NotesModel) (ls : List LineModel) → Read n → Gives Read (stanzas n ls)
 stanzas_keep n [] s = s
 stanzas_keep n (l ∷ ls) s = then Read Read (step n l (heading_of l.text)) (λ m. stanzas m ls) (step_keeps n l (heading_of l.text) s) (λ m t. stanzas_keep m ls t)
 

@@ -1,5 +1,5 @@
 -- What a cursor has before it, and what its calls read.
-use Rattle.std.specs.Prelude.{◌≡◌, ℕ, ◌≤◌, Bool, true, false, List, [], ◌∷◌, ◌++◌, length, take, drop, Some, None, Ok, Err, Option, Result}
+use Rattle.std.specs.Prelude.{◌≡◌, ℕ, ◌≤◌, Bool, true, false, List, [], ◌∷◌, ◌++◌, length, drop, Some, None, Ok, Err, Option, Result}
 use Rattle.texts.specs.declared.faults.Fault.{Fault}
 use Rattle.texts.specs.declared.spans.Span.{Span}
 use Rattle.stanzas.specs.Tokens.{Mention, Token, Named, Misnamed, Comma, Bar, tokens}
@@ -13,13 +13,13 @@ use Rattle.stanzas.specs.declared.cursor.Separator.{Separator}
 use Rattle.stanzas.specs.declared.cursor.Separator.TheVariants as separator
 use Rattle.stanzas.specs.declared.lines.Relation.{Relation}
 
--- the file up to the end of the value
-abbrev pub ahead : Cursor → List ℕ
-ahead c = take c.end c.text.now
-
 -- the tokens that are still to come
 abbrev pub rest : Cursor → List Token
-rest c = tokens false c.at (drop c.at (ahead c))
+rest c = tokens false c.at (drop c.at c.text.now)
+
+-- where the value ends
+abbrev pub end : Cursor → ℕ
+end c = length c.text.now
 
 -- the token that was read from a text
 abbrev pub token_of : List ℕ → Lexeme → Token
@@ -28,27 +28,33 @@ token_of text (lexeme.Misnamed p) = Misnamed p
 token_of text (lexeme.Comma p) = Comma p
 token_of text (lexeme.Bar p) = Bar p
 
--- b is in the same value as a
-pub record Same (a b : Cursor) : Type 0 where
-  pub text : b.text.now ≡ a.text.now
-  pub end : b.end ≡ a.end
+-- a name that was read ends in the text
+abbrev pub Inside : List ℕ → Lexeme → Type 0
+Inside text (lexeme.Name s) = s.end ≤ length text
+Inside text (lexeme.Misnamed p) = Unit {0}
+Inside text (lexeme.Comma p) = Unit {0}
+Inside text (lexeme.Bar p) = Unit {0}
 
 abbrev pub Reads : List ℕ → Option Lexeme → List Token → List Token → Type 0
 Reads text None ts us = (ts ≡ []) × (us ≡ [])
-Reads text (Some t) ts us = ts ≡ token_of text t ∷ us
+Reads text (Some t) ts us = (ts ≡ token_of text t ∷ us) × Inside text t
 
 -- r is the first token of a, and b has the others before it
 pub record Took (r : Option Lexeme) (a b : Cursor) : Type 0 where
-  pub same : Same a b
+  pub text : b.text.now ≡ a.text.now
   pub reads : Reads a.text.now r (rest a) (rest b)
 
+-- the name at s is the first token of a, and b has the others before it
+abbrev pub ReadsName : Span → Cursor → Cursor → Type 0
+ReadsName s a b = (rest a ≡ Named (mention a.text.now s) ∷ rest b) × (s.end ≤ length a.text.now)
+
 abbrev pub OnlyReads : Result Span Fault → Cursor → Cursor → Type 0
-OnlyReads (Ok s) a b = rest a ≡ Named (mention a.text.now s) ∷ rest b
-OnlyReads (Err x) a b = (n : NotesModel) → single a.end n (rest a) ≡ Err x
+OnlyReads (Ok s) a b = ReadsName s a b
+OnlyReads (Err x) a b = (n : NotesModel) → single (end a) n (rest a) ≡ Err x
 
 -- q is the name with which the value of a Package begins, or the fault that the value has
 pub record OnlyName (q : Result Span Fault) (a b : Cursor) : Type 0 where
-  pub same : Same a b
+  pub text : b.text.now ≡ a.text.now
   pub reads : OnlyReads q a b
 
 -- q says whether nothing follows that name
@@ -58,15 +64,15 @@ Nothing (Err x) ts = (n : NotesModel) → alone ts n ≡ Err x
 
 -- what the value says from c on, where a name is due
 abbrev pub onward : Relation → Cursor → NotesModel → List Mention → Result NotesModel Fault
-onward r c n front = listed r c.end n front (rest c)
+onward r c n front = listed r (end c) n front (rest c)
 
 abbrev pub NameReads : Relation → Result Span Fault → Cursor → Cursor → Type 0
-NameReads r (Ok s) a b = rest a ≡ Named (mention a.text.now s) ∷ rest b
+NameReads r (Ok s) a b = ReadsName s a b
 NameReads r (Err x) a b = (n : NotesModel) (front : List Mention) → onward r a n front ≡ Err x
 
 -- q is the name that is due at a, or the fault that the value has
 pub record NameRead (r : Relation) (q : Result Span Fault) (a b : Cursor) : Type 0 where
-  pub same : Same a b
+  pub text : b.text.now ≡ a.text.now
   pub reads : NameReads r q a b
 
 -- what the value says after a name, by what stands there; clause has the names up to that one
@@ -77,8 +83,8 @@ after r c n clause separator.End = added r n clause
 
 -- q is what stands after a name m before a
 pub record SeparatorRead (r : Relation) (q : Result Separator Fault) (a b : Cursor) : Type 0 where
-  pub same : Same a b
-  pub reads : (n : NotesModel) (front : List Mention) (m : Mention) → listed r a.end n front (Named m ∷ rest a) ≡ and_then q (after r b n (front ++ m ∷ []))
+  pub text : b.text.now ≡ a.text.now
+  pub reads : (n : NotesModel) (front : List Mention) (m : Mention) → listed r (end a) n front (Named m ∷ rest a) ≡ and_then q (after r b n (front ++ m ∷ []))
   pub shorter : length (rest b) ≤ length (rest a)
 
 -- whether a value is empty, where it begins
@@ -87,6 +93,6 @@ Begins true ts = ts ≡ []
 Begins false ts = (r : Relation) (e : ℕ) (n : NotesModel) → related r e n ts ≡ listed r e n [] ts
 
 pub record Begun (q : Bool) (a b : Cursor) : Type 0 where
-  pub same : Same a b
+  pub text : b.text.now ≡ a.text.now
   pub others : rest b ≡ rest a
   pub begins : Begins q (rest a)

@@ -1,11 +1,12 @@
 -- What a whole file says, or the first fault in it.
-use Rattle.std.specs.Prelude.{ℕ, Bool, true, false, cond, not, ◌&&◌, List, [], ◌∷◌, length, Ok, Err, Result, nat_lt}
+use Rattle.std.specs.Prelude.{ℕ, Bool, true, false, cond, List, [], ◌∷◌, length, Some, None, Option, Ok, Err, Result, nat_lt}
 use Rattle.refusals.specs.declared.Refusal.TheVariants.{BadLine, StrayField, TooLong}
+use Rattle.texts.specs.Faults.{fault}
 use Rattle.texts.specs.declared.faults.Layer.TheVariants as layer
 use Rattle.texts.specs.declared.faults.Fault.{Fault}
-use Rattle.stanzas.specs.Notes.{NotesModel, no_stanza, start, with_stanza, fault, and_then}
+use Rattle.stanzas.specs.Notes.{NotesModel, start, with_stanza, and_then}
 use Rattle.stanzas.specs.Values.{single, related}
-use Rattle.stanzas.specs.Lines.{Line, lines, heading_of, value_of, end_of}
+use Rattle.stanzas.specs.Lines.{LineModel, lines, heading_of, value_of, end_of}
 use Rattle.stanzas.specs.declared.lines.Heading.{Heading}
 use Rattle.stanzas.specs.declared.lines.Heading.TheVariants.{Empty, Continued, Package, Related, Skipped, Malformed}
 use Rattle.stanzas.specs.declared.lines.Relation.{Relation}
@@ -31,25 +32,41 @@ has s Conflicts = s.conflicts
 
 -- the stanza once the field has occurred; it has no continuation
 abbrev pub with : Stanza → Relation → Stanza
-with s Depends = record { named = s.named; depends = true; conflicts = s.conflicts; skipping = false }
-with s Conflicts = record { named = s.named; depends = s.depends; conflicts = true; skipping = false }
+with s Depends = record { depends = true; conflicts = s.conflicts; skipping = false }
+with s Conflicts = record { depends = s.depends; conflicts = true; skipping = false }
 
 -- the stanza once a field was skipped: continuations may follow
 abbrev pub skips : Stanza → Stanza
-skips s = record { named = s.named; depends = s.depends; conflicts = s.conflicts; skipping = true }
+skips s = record { depends = s.depends; conflicts = s.conflicts; skipping = true }
 
--- what a line adds to what was said before it
-abbrev pub step : NotesModel → Line → Heading → Result NotesModel Fault
-step n l Empty = Ok (with_stanza n no_stanza)
-step n l Continued = cond n.stanza.skipping (Ok n) (Err (malformed l.place))
-step n l Package = cond n.stanza.named (Err (stray l.place)) (single (end_of l) n (value_of l))
-step n l (Related r) =
-    cond (n.stanza.named && not (has n.stanza r)) (related r (end_of l) (with_stanza n (with n.stanza r)) (value_of l)) (Err (stray l.place))
-step n l Skipped = cond n.stanza.named (Ok (with_stanza n (skips n.stanza))) (Err (stray l.place))
-step n l Malformed = Err (malformed l.place)
+-- what a line adds between two stanzas
+abbrev pub outside : NotesModel → LineModel → Heading → Result NotesModel Fault
+outside n l Empty = Ok (with_stanza n None)
+outside n l Continued = Err (malformed l.place)
+outside n l Package = single (end_of l) n (value_of l)
+outside n l (Related r) = Err (stray l.place)
+outside n l Skipped = Err (stray l.place)
+outside n l Malformed = Err (malformed l.place)
+
+-- what a line adds in a stanza
+abbrev pub within : Stanza → NotesModel → LineModel → Heading → Result NotesModel Fault
+within s n l Empty = Ok (with_stanza n None)
+within s n l Continued = cond s.skipping (Ok n) (Err (malformed l.place))
+within s n l Package = Err (stray l.place)
+within s n l (Related r) = cond (has s r) (Err (stray l.place)) (related r (end_of l) (with_stanza n (Some (with s r))) (value_of l))
+within s n l Skipped = Ok (with_stanza n (Some (skips s)))
+within s n l Malformed = Err (malformed l.place)
+
+-- what a line adds to what was said before it, by the stanza at hand
+abbrev pub step_in : Option Stanza → NotesModel → LineModel → Heading → Result NotesModel Fault
+step_in None = outside
+step_in (Some s) = within s
+
+abbrev pub step : NotesModel → LineModel → Heading → Result NotesModel Fault
+step n = step_in n.stanza n
 
 -- line after line
-abbrev pub stanzas : NotesModel → List Line → Result NotesModel Fault
+abbrev pub stanzas : NotesModel → List LineModel → Result NotesModel Fault
 stanzas n [] = Ok n
 stanzas n (l ∷ ls) = and_then (step n l (heading_of l.text)) (λ m. stanzas m ls)
 

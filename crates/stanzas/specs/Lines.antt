@@ -9,7 +9,7 @@ use Rattle.stanzas.specs.declared.lines.Heading.TheVariants.{Empty, Continued, P
 use Rattle.stanzas.specs.declared.lines.Relation.TheVariants.{Depends, Conflicts}
 
 -- a line without its line feed, at its place in the file
-pub record Line : Type 0 where
+pub record LineModel : Type 0 where
   pub place : ℕ
   pub text : List ℕ
 
@@ -18,7 +18,7 @@ abbrev pub first_line : List ℕ → List ℕ
 first_line s = take (prefix_len in_line s) s
 
 -- the lines of the bytes at p; inside: the first byte goes on with a line that began before it
-abbrev pub lines : Bool → ℕ → List ℕ → List Line
+abbrev pub lines : Bool → ℕ → List ℕ → List LineModel
 lines inside p [] = []
 lines inside p (b ∷ s) = cond inside [] (record { place = p; text = first_line (b ∷ s) } ∷ []) ++ lines (in_line b) (p + 1) s
 
@@ -39,9 +39,9 @@ heading_of [] = Empty
 heading_of (b ∷ s) = cond (blank b) Continued (cond (letter b && slice_index (b ∷ s) (label (b ∷ s)) == 58) (field_of (take (label (b ∷ s)) (b ∷ s))) Malformed)
 
 -- the tokens after the colon
-abbrev pub value_of : Line → List Token
+abbrev pub value_of : LineModel → List Token
 value_of l = tokens false (l.place + (label l.text + 1)) (drop (label l.text + 1) l.text)
 
 -- the place of its line feed, or the file's end
-abbrev pub end_of : Line → ℕ
+abbrev pub end_of : LineModel → ℕ
 end_of l = l.place + length l.text

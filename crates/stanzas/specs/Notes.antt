@@ -1,11 +1,10 @@
 -- What a file has said so far, and how a name, a clause or a conflict is added to it.
-use Rattle.std.specs.Prelude.{ℕ, ◌-◌, true, false, cond, List, [], ◌∷◌, ◌++◌, map, length, is_some, Ok, Err, Result, nat_lt}
+use Rattle.std.specs.Prelude.{ℕ, ◌-◌, false, cond, List, [], ◌∷◌, ◌++◌, map, length, is_some, Some, None, Option, Ok, Err, Result, nat_lt}
 use Rattle.sets.specs.Limit.{limit}
-use Rattle.refusals.specs.declared.Refusal.{Refusal}
 use Rattle.refusals.specs.declared.Refusal.TheVariants.{NameTwice, TooMany, TableFull}
 use Rattle.sheets.specs.Limits.{max_clauses}
 use Rattle.texts.specs.Spans.{look_up}
-use Rattle.texts.specs.declared.faults.Layer.{Layer}
+use Rattle.texts.specs.Faults.{fault}
 use Rattle.texts.specs.declared.faults.Layer.TheVariants as layer
 use Rattle.texts.specs.declared.faults.Fault.{Fault}
 use Rattle.stanzas.specs.Tokens.{Mention}
@@ -23,28 +22,19 @@ pub record ClashModel : Type 0 where
   pub owner : ℕ
   pub name : List ℕ
 
--- the names of the components, the clauses and conflicts in file order, and what the stanza at hand has had so far
+-- the names of the components, the clauses and conflicts in file order, and what the stanza at hand has had so far; between two stanzas there is none at hand
 pub record NotesModel : Type 0 where
   pub names : List (List ℕ)
   pub needs : List NeedModel
   pub clashes : List ClashModel
-  pub stanza : Stanza
-
--- between two stanzas: none of its fields has occurred
-abbrev pub no_stanza : Stanza
-no_stanza = record { named = false; depends = false; conflicts = false; skipping = false }
+  pub stanza : Option Stanza
 
 -- before the first line
 abbrev pub start : NotesModel
-start = record { names = []; needs = []; clashes = []; stanza = no_stanza }
+start = record { names = []; needs = []; clashes = []; stanza = None }
 
-abbrev pub with_stanza : NotesModel → Stanza → NotesModel
+abbrev pub with_stanza : NotesModel → Option Stanza → NotesModel
 with_stanza n s = record { names = n.names; needs = n.needs; clashes = n.clashes; stanza = s }
-
--- ---- faults
-
-abbrev pub fault : Refusal → Layer → ℕ → Fault
-fault r l p = record { refusal = r; layer = l; place = p }
 
 -- go on with what was read, or give its fault
 abbrev pub and_then : {X Y : Type 0} → Result X Fault → (X → Result Y Fault) → Result Y Fault
@@ -53,9 +43,13 @@ and_then (Err e) f = Err e
 
 -- ---- names
 
+-- a stanza that has had its Package, and nothing else
+abbrev pub fresh : Stanza
+fresh = record { depends = false; conflicts = false; skipping = false }
+
 -- a stanza begins, and its component has this name
 abbrev pub with_name : NotesModel → List ℕ → NotesModel
-with_name n x = record { names = n.names ++ x ∷ []; needs = n.needs; clashes = n.clashes; stanza = record { named = true; depends = false; conflicts = false; skipping = false } }
+with_name n x = record { names = n.names ++ x ∷ []; needs = n.needs; clashes = n.clashes; stanza = Some fresh }
 
 -- a name that a stanza before has, then one component too many
 abbrev pub name_added : NotesModel → Mention → Result NotesModel Fault

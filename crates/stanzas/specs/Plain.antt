@@ -1,10 +1,10 @@
 -- Stanzas as their author means them, written out plainly, and the law that reading gives them back.
-use Rattle.std.specs.Prelude.{◌≡◌, ℕ, suc, ◌≤◌, Bool, true, false, ◌&&◌, List, [], ◌∷◌, ◌++◌, map, length, is_some, Ok, codes}
+use Rattle.std.specs.Prelude.{◌≡◌, ℕ, suc, ◌≤◌, Bool, true, false, ◌&&◌, List, [], ◌∷◌, ◌++◌, map, length, is_some, None, Ok, codes}
 use Rattle.sets.specs.Limit.{limit}
 use Rattle.sheets.specs.Limits.{max_clauses}
 use Rattle.texts.specs.Bytes.{good}
 use Rattle.texts.specs.Spans.{look_up}
-use Rattle.stanzas.specs.Notes.{NeedModel, ClashModel, NotesModel, no_stanza}
+use Rattle.stanzas.specs.Notes.{NeedModel, ClashModel, NotesModel}
 use Rattle.stanzas.specs.Files.{max_bytes, reading}
 
 -- a component: its name, its clauses, each a choice between names, and the names that it conflicts with
@@ -51,7 +51,7 @@ clashes_from i [] = []
 clashes_from i (e ∷ es) = map (λ name. record { owner = i; name = name }) e.clashes ++ clashes_from (suc i) es
 
 abbrev pub told : List Entry → NotesModel
-told es = record { names = map (λ e. e.name) es; needs = needs_from 0 es; clashes = clashes_from 0 es; stanza = no_stanza }
+told es = record { names = map (λ e. e.name) es; needs = needs_from 0 es; clashes = clashes_from 0 es; stanza = None }
 
 -- ---- within the rules
 

@@ -2,9 +2,10 @@
 use Rattle.std.specs.Prelude.{ℕ, Bool, true, false, cond, List, [], ◌∷◌, ◌++◌, Ok, Err, Result}
 use Rattle.refusals.specs.declared.Refusal.TheVariants.{BadLine, BadName}
 use Rattle.texts.specs.declared.faults.Layer.TheVariants as layer
+use Rattle.texts.specs.Faults.{fault}
 use Rattle.texts.specs.declared.faults.Fault.{Fault}
 use Rattle.stanzas.specs.Tokens.{Mention, Token, Named, Misnamed, Comma, Bar, place_of}
-use Rattle.stanzas.specs.Notes.{NotesModel, fault, and_then, name_added, added}
+use Rattle.stanzas.specs.Notes.{NotesModel, and_then, name_added, added}
 use Rattle.stanzas.specs.declared.lines.Relation.{Relation}
 use Rattle.stanzas.specs.declared.lines.Relation.TheVariants.{Depends, Conflicts}
 

@@ -1,15 +1,34 @@
--- What the code's values mean: notes over a text, and answers that may also be want of memory.
-use Rattle.std.specs.Prelude.{◌≡◌, ℕ, List, map, Ok, Err, vec_items, Result}
+-- What the code's values mean: lines, notes, and answers that may also be want of memory.
+use Rattle.std.specs.Prelude.{◌≡◌, ℕ, false, List, [], ◌∷◌, map, drop, Some, None, Option, Ok, Err, vec_items, Result}
+use Rattle.refusals.specs.declared.Failure.{Failure}
+use Rattle.refusals.specs.declared.Failure.TheVariants.{Refused, OutOfMemory}
 use Rattle.texts.specs.Spans.{stretch}
 use Rattle.texts.specs.declared.faults.Fault.{Fault}
-use Rattle.texts.specs.declared.faults.ReadError.{ReadError}
-use Rattle.texts.specs.declared.faults.ReadError.TheVariants.{Faulty, OutOfMemory}
 use Rattle.texts.specs.declared.spans.Span.{Span}
-use Rattle.stanzas.specs.Lines.{Line}
+use Rattle.stanzas.specs.Spans.{IsFront}
+use Rattle.stanzas.specs.Lines.{LineModel, lines}
 use Rattle.stanzas.specs.Notes.{NeedModel, ClashModel, NotesModel}
+use Rattle.stanzas.specs.declared.lines.Line.{Line}
+use Rattle.stanzas.specs.declared.lines.Lines.{Lines}
 use Rattle.stanzas.specs.declared.notes.Need.{Need}
 use Rattle.stanzas.specs.declared.notes.Clash.{Clash}
 use Rattle.stanzas.specs.declared.notes.Notes.{Notes}
+
+-- ---- lines
+
+abbrev pub line_of : Line → LineModel
+line_of l = record { place = l.start; text = drop l.start l.text.now }
+
+-- the lines that are still to come
+abbrev pub left : Lines → List LineModel
+left ls = lines false ls.at (drop ls.at ls.text.now)
+
+-- r is the first of the lines that a has left, and b has the others
+abbrev pub GivesLine : Lines → Option Line → Lines → Type 0
+GivesLine a None b = left a ≡ []
+GivesLine a (Some l) b = (left a ≡ line_of l ∷ left b) × IsFront l.text.now a.text.now × (b.text.now ≡ a.text.now)
+
+-- ---- notes
 
 abbrev pub need_of : List ℕ → Need → NeedModel
 need_of text n = record { owner = n.owner; names = map (stretch text) (vec_items n.names) }
@@ -21,30 +40,28 @@ clash_of text c = record { owner = c.owner; name = stretch text c.name }
 abbrev pub clash_with : ℕ → Span → Clash
 clash_with p s = record { owner = p; name = s }
 
--- what the notes say where they were taken from this text
-abbrev pub notes_of : List ℕ → Notes → NotesModel
-notes_of text n = record {
-  names = map (stretch text) (vec_items n.names);
-  needs = map (need_of text) (vec_items n.needs);
-  clashes = map (clash_of text) (vec_items n.clashes);
+-- what the notes say
+abbrev pub notes_of : Notes → NotesModel
+notes_of n = record {
+  names = map (stretch n.text.now) (vec_items n.names);
+  needs = map (need_of n.text.now) (vec_items n.needs);
+  clashes = map (clash_of n.text.now) (vec_items n.clashes);
   stanza = n.stanza;
 }
 
--- the line at a span
-abbrev pub line_at : List ℕ → Span → Line
-line_at text s = record { place = s.start; text = stretch text s }
+-- ---- answers
 
 -- an error is the fault that is due, unless it is want of memory
-abbrev pub Stops : {X : Type 0} → ReadError → Result X Fault → Type 0
-Stops (Faulty x) want = want ≡ Err x
+abbrev pub Stops : {X : Type 0} → Failure Fault → Result X Fault → Type 0
+Stops (Refused x) want = want ≡ Err x
 Stops OutOfMemory want = Unit {0}
 
--- a call that changes notes does what is due: it leaves the notes `after`, or it stops
-abbrev pub Leaves : Result (Unit {0}) ReadError → Result NotesModel Fault → NotesModel → Type 0
-Leaves (Ok u) want after = want ≡ Ok after
-Leaves (Err e) want after = Stops e want
+-- a call that changes notes does what is due and leaves the notes b, of the same text, or it stops
+abbrev pub Leaves : Result (Unit {0}) (Failure Fault) → Result NotesModel Fault → Notes → Notes → Type 0
+Leaves (Ok u) want a b = (want ≡ Ok (notes_of b)) × (b.text.now ≡ a.text.now)
+Leaves (Err e) want a b = Stops e want
 
 -- a call that makes notes from a text gives those that are due, or it stops
-abbrev pub Gives : List ℕ → Result Notes ReadError → Result NotesModel Fault → Type 0
-Gives text (Ok n) want = want ≡ Ok (notes_of text n)
+abbrev pub Gives : List ℕ → Result Notes (Failure Fault) → Result NotesModel Fault → Type 0
+Gives text (Ok n) want = (want ≡ Ok (notes_of n)) × (n.text.now ≡ text)
 Gives text (Err e) want = Stops e want

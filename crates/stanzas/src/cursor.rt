@@ -6,12 +6,12 @@ ghost use Rattle.stanzas.specs.Tokens.{place_of};
 
 use crate::lines::Relation;
 use refusals::Refusal;
-use texts::bytes::{Blanks, InRun, is_name, scan};
+use texts::bytes::{is_blank, is_in_run, is_name, scan};
 use texts::faults::{Fault, Layer};
-use texts::spans::{Span, front};
+use texts::spans::Span;
 
 /// What a value is made of; `Misnamed` is a run that is no good name.
-#[derive(Clone, Copy)]
+#[derive(Clone, Copy, PartialEq, Eq, Hash, Debug)]
 pub(crate) enum Lexeme {
     Name(Span),
     Misnamed(usize),
@@ -20,41 +20,32 @@ pub(crate) enum Lexeme {
 }
 
 /// What stands after a name in a list of names.
-#[derive(Clone, Copy)]
+#[derive(Clone, Copy, PartialEq, Eq, Hash, Debug)]
 pub(crate) enum Separator {
     Bar,
     Comma,
     End,
 }
 
-/// A place in a value, which ends at `end`.
-#[derive(Drop)]
+/// A place in a value: the text up to the value's end, and the place.
+#[derive(Clone, Copy, Debug)]
 pub(crate) struct Cursor<'a> {
     pub(crate) text: &'a [u8],
     pub(crate) at: usize,
-    pub(crate) end: usize,
 }
 
 /// A name breaks the rule, or is missing.
 fn no_name(place: usize) -> Fault
     ensures { result ≡ no_name place }
 {
-    Fault {
-        refusal: Refusal::BadName,
-        layer: Layer::Name,
-        place,
-    }
+    Fault::new(Refusal::BadName, Layer::Name, place)
 }
 
 /// A name or a separator stands where the field has none.
 fn misplaced(place: usize) -> Fault
     ensures { result ≡ misplaced place }
 {
-    Fault {
-        refusal: Refusal::BadLine,
-        layer: Layer::Field,
-        place,
-    }
+    Fault::new(Refusal::BadLine, Layer::Field, place)
 }
 
 impl Relation {
@@ -62,10 +53,7 @@ impl Relation {
     fn has_bars(self) -> bool
         ensures { result ≡ bars self }
     {
-        match self {
-            Relation::Depends => true,
-            Relation::Conflicts => false,
-        }
+        self == Relation::Depends
     }
 }
 
@@ -86,26 +74,29 @@ impl Cursor<'_> {
     pub(crate) fn token(&mut self) -> Option<Lexeme>
         ensures { Took result self.old self.new }
     {
-        let line = front(self.text, self.end);
-        let at = scan::<Blanks>(line, self.at);
+        let at = scan(self.text, self.at, is_blank);
         self.at = at;
-        if at >= line.len() {
+        if at >= self.text.len() {
             return None;
         }
-        if line[at] == b',' {
-            self.at = at + 1;
-            return Some(Lexeme::Comma(at));
-        }
-        if line[at] == b'|' {
-            self.at = at + 1;
-            return Some(Lexeme::Bar(at));
-        }
-        let end = scan::<InRun>(line, at);
-        self.at = end;
-        if is_name(&line[at..end]) {
-            Some(Lexeme::Name(Span { start: at, end }))
-        } else {
-            Some(Lexeme::Misnamed(at))
+        match self.text[at] {
+            b',' => {
+                self.at = at + 1;
+                Some(Lexeme::Comma(at))
+            }
+            b'|' => {
+                self.at = at + 1;
+                Some(Lexeme::Bar(at))
+            }
+            _ => {
+                let end = scan(self.text, at, is_in_run);
+                self.at = end;
+                if is_name(&self.text[at..end]) {
+                    Some(Lexeme::Name(Span { start: at, end }))
+                } else {
+                    Some(Lexeme::Misnamed(at))
+                }
+            }
         }
     }
 
@@ -117,7 +108,7 @@ impl Cursor<'_> {
             Some(Lexeme::Name(span)) => Ok(span),
             Some(Lexeme::Misnamed(place)) => Err(no_name(place)),
             Some(Lexeme::Comma(place) | Lexeme::Bar(place)) => Err(misplaced(place)),
-            None => Err(no_name(self.end)),
+            None => Err(no_name(self.text.len())),
         }
     }
 
@@ -139,7 +130,7 @@ impl Cursor<'_> {
             Some(Lexeme::Name(span)) => Ok(span),
             Some(Lexeme::Bar(place)) if !relation.has_bars() => Err(misplaced(place)),
             Some(other) => Err(no_name(other.place())),
-            None => Err(no_name(self.end)),
+            None => Err(no_name(self.text.len())),
         }
     }
 
@@ -147,13 +138,11 @@ impl Cursor<'_> {
     pub(crate) fn separator(&mut self, relation: Relation) -> Result<Separator, Fault>
         ensures { SeparatorRead relation result self.old self.new }
     {
-        let Some(lexeme) = self.token() else {
-            return Ok(Separator::End);
-        };
-        match lexeme {
-            Lexeme::Comma(_) => Ok(Separator::Comma),
-            Lexeme::Bar(_) if relation.has_bars() => Ok(Separator::Bar),
-            other => Err(misplaced(other.place())),
+        match self.token() {
+            None => Ok(Separator::End),
+            Some(Lexeme::Comma(_)) => Ok(Separator::Comma),
+            Some(Lexeme::Bar(_)) if relation.has_bars() => Ok(Separator::Bar),
+            Some(other) => Err(misplaced(other.place())),
         }
     }
 
@@ -161,8 +150,7 @@ impl Cursor<'_> {
     pub(crate) fn is_done(&mut self) -> bool
         ensures { Begun result self.old self.new }
     {
-        let line = front(self.text, self.end);
-        self.at = scan::<Blanks>(line, self.at);
-        self.at >= line.len()
+        self.at = scan(self.text, self.at, is_blank);
+        self.at >= self.text.len()
     }
 }

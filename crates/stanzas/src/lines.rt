@@ -1,20 +1,21 @@
-//! What a line is.
-ghost use Rattle.std.specs.Prelude.{◌≡◌};
+//! The lines of a file, and what each of them is.
+ghost use Rattle.std.specs.Prelude.{◌≡◌, ◌-◌, ◌≤◌, length};
 ghost use Rattle.stanzas.specs.Lines.{field_of, heading_of};
-ghost use Rattle.stanzas.specs.Notes.{no_stanza};
 ghost use Rattle.stanzas.specs.Files.{has, with};
 
-use texts::bytes::{InLabel, is_blank, is_letter, same, scan};
+use crate::cursor::Cursor;
+use texts::bytes::{is_blank, is_in_label, is_in_line, is_letter, scan};
+use texts::spans::front;
 
 /// The fields that relate a component to others.
-#[derive(Clone, Copy)]
+#[derive(Clone, Copy, PartialEq, Eq, Hash, Debug)]
 pub enum Relation {
     Depends,
     Conflicts,
 }
 
 /// What a line is.
-#[derive(Clone, Copy)]
+#[derive(Clone, Copy, PartialEq, Eq, Hash, Debug)]
 pub enum Heading {
     Empty,
     Continued,
@@ -24,28 +25,15 @@ pub enum Heading {
     Malformed,
 }
 
-/// Which fields the stanza at hand has had, and whether a continuation may come next.
-#[derive(Clone, Copy)]
+/// Which fields a stanza has had after its `Package`, and whether a continuation may come next.
+#[derive(Clone, Copy, PartialEq, Eq, Hash, Default, Debug)]
 pub struct Stanza {
-    pub(crate) named: bool,
     pub(crate) depends: bool,
     pub(crate) conflicts: bool,
     pub(crate) skipping: bool,
 }
 
 impl Stanza {
-    /// Between two stanzas.
-    pub(crate) fn none() -> Stanza
-        ensures { result ≡ no_stanza }
-    {
-        Stanza {
-            named: false,
-            depends: false,
-            conflicts: false,
-            skipping: false,
-        }
-    }
-
     /// Whether the field has occurred.
     pub(crate) fn has(self, relation: Relation) -> bool
         ensures { result ≡ has self relation }
@@ -80,14 +68,11 @@ impl Heading {
     fn named(label: &[u8]) -> Heading
         ensures { result ≡ field_of label.now }
     {
-        if same(label, b"Package") {
-            Heading::Package
-        } else if same(label, b"Depends") {
-            Heading::Related(Relation::Depends)
-        } else if same(label, b"Conflicts") {
-            Heading::Related(Relation::Conflicts)
-        } else {
-            Heading::Skipped
+        match label {
+            b"Package" => Heading::Package,
+            b"Depends" => Heading::Related(Relation::Depends),
+            b"Conflicts" => Heading::Related(Relation::Conflicts),
+            _ => Heading::Skipped,
         }
     }
 
@@ -101,11 +86,75 @@ impl Heading {
         if is_blank(line[0]) {
             return Heading::Continued;
         }
-        let colon = scan::<InLabel>(line, 0);
+        let colon = scan(line, 0, is_in_label);
         if is_letter(line[0]) && colon < line.len() && line[colon] == b':' {
-            Heading::named(&line[0..colon])
+            Heading::named(&line[..colon])
         } else {
             Heading::Malformed
         }
+    }
+}
+
+/// A line: the text up to its end, and where it begins.
+#[derive(Clone, Copy, Debug)]
+pub(crate) struct Line<'a> {
+    pub(crate) text: &'a [u8],
+    pub(crate) start: usize,
+    ghost inside: { start ≤ length text.now },
+}
+
+impl<'a> Line<'a> {
+    ghost use Rattle.stanzas.specs.Lines.{value_of};
+    ghost use Rattle.stanzas.specs.Cursors.{rest};
+    ghost use Rattle.stanzas.specs.Views.{line_of};
+
+    /// What it is.
+    pub(crate) fn heading(&self) -> Heading
+        ensures { result ≡ heading_of (line_of self.now).text }
+    {
+        Heading::of(&self.text[self.start..])
+    }
+
+    /// The value of a field line, from behind its colon.
+    pub(crate) fn value(&self) -> Cursor<'a>
+        ensures text { result.text.now ≡ self.now.text.now }
+        ensures tokens { rest result ≡ value_of (line_of self.now) }
+    {
+        let colon = scan(self.text, self.start, is_in_label);
+        Cursor {
+            text: self.text,
+            at: colon + 1,
+        }
+    }
+}
+
+/// The lines of a text that are still to come.
+#[derive(Debug, Drop)]
+pub(crate) struct Lines<'a> {
+    pub(crate) text: &'a [u8],
+    pub(crate) at: usize,
+}
+
+impl<'a> Iterator for Lines<'a> {
+    ghost use Rattle.std.specs.Iterator.{at_most};
+    ghost use Rattle.stanzas.specs.Views.{GivesLine};
+
+    type Item = Line<'a>;
+
+    ghost next_gives = { GivesLine };
+
+    ghost remaining = { λ s. at_most (length s.text.now - s.at) };
+
+    fn next(&mut self) -> Option<Line<'a>> {
+        let start = self.at;
+        if start >= self.text.len() {
+            return None;
+        }
+        let end = scan(self.text, start, is_in_line);
+        self.at = end + 1;
+        Some(Line {
+            text: front(self.text, end),
+            start,
+        })
     }
 }

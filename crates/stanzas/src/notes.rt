@@ -15,17 +15,19 @@ pub struct Need {
 }
 
 /// A conflict as it is written: the component in whose stanza it stands, and the name of the other.
-#[derive(Clone, Copy, PartialEq, Eq, Debug)]
+#[derive(Clone, Copy, PartialEq, Eq, Hash, Debug)]
 pub struct Clash {
     pub owner: usize,
     pub name: Span,
 }
 
-/// The names of the components, then the clauses and the conflicts in file order, all as stretches of the text.
+/// The names of the components, then the clauses and the conflicts in file order, all as stretches of the text; and the
+/// stanza at hand.
 #[derive(Drop)]
-pub struct Notes {
+pub struct Notes<'a> {
+    text: &'a [u8],
     names: Vec<Span>,
     needs: Vec<Need>,
     clashes: Vec<Clash>,
-    stanza: Stanza,
+    stanza: Option<Stanza>,
 }

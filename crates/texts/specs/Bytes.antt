@@ -1,5 +1,6 @@
 -- Kinds of bytes, and the rule for a name.
-use Rattle.std.specs.Prelude.{ℕ, Bool, true, not, ◌&&◌, ◌||◌, List, [], ◌∷◌, length, ◌==◌, nat_le, slice_index}
+use Rattle.std.specs.Prelude.{◌≡◌, ℕ, Bool, not, ◌&&◌, ◌||◌, List, length, ◌==◌, nat_le, slice_index}
+use Rattle.std.specs.List.{list_all}
 
 -- a space or a tab
 abbrev pub blank : ℕ → Bool
@@ -41,10 +42,10 @@ starts b = lower b || digit b
 abbrev pub in_name : ℕ → Bool
 in_name b = starts b || b == 43 || b == 45 || b == 46
 
-abbrev pub every : (ℕ → Bool) → List ℕ → Bool
-every p [] = true
-every p (b ∷ bs) = p b && every p bs
-
 -- the rule for a name: 2 to 64 bytes, of those that a name consists of, the first one of those that it begins with
 abbrev pub good : List ℕ → Bool
-good n = nat_le 2 (length n) && nat_le (length n) 64 && starts (slice_index n 0) && every in_name n
+good n = nat_le 2 (length n) && nat_le (length n) 64 && starts (slice_index n 0) && list_all in_name n
+
+-- an answer that post allows is that of p
+abbrev pub IsTest : (ℕ → Bool → Type 0) → (ℕ → Bool) → Type 0
+IsTest post p = (b : ℕ) (answer : Bool) → post b answer → answer ≡ p b

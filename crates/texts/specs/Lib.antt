@@ -1,3 +1,3 @@
 pub mod Bytes
-pub mod Words
+pub mod Faults
 pub mod Spans

@@ -1,8 +1,7 @@
 //! Kinds of bytes, runs of them, and the rule for a name.
 ghost use Rattle.std.specs.Prelude.{◌≡◌, ℕ, ◌+◌, ◌≤◌, Bool, length, drop};
 ghost use Rattle.std.specs.List.{prefix_len};
-ghost use Rattle.std.specs.Str.{bytes_eq};
-ghost use Rattle.texts.specs.Bytes.{blank, in_line, letter, in_label, in_run, starts, in_name, good};
+ghost use Rattle.texts.specs.Bytes.{blank, in_line, letter, in_label, in_run, starts, in_name, good, IsTest};
 
 /// A space or a tab.
 pub fn is_blank(byte: u8) -> bool
@@ -11,11 +10,32 @@ pub fn is_blank(byte: u8) -> bool
     byte == b' ' || byte == b'\t'
 }
 
+/// All bytes but the line feed.
+pub fn is_in_line(byte: u8) -> bool
+    ensures { result ≡ in_line byte }
+{
+    byte != b'\n'
+}
+
 /// What a label begins with.
 pub fn is_letter(byte: u8) -> bool
     ensures { result ≡ letter byte }
 {
     byte.is_ascii_lowercase() || byte.is_ascii_uppercase()
+}
+
+/// What a label consists of.
+pub fn is_in_label(byte: u8) -> bool
+    ensures { result ≡ in_label byte }
+{
+    is_letter(byte) || byte.is_ascii_digit() || byte == b'-'
+}
+
+/// What stands between blanks, commas and bars.
+pub fn is_in_run(byte: u8) -> bool
+    ensures { result ≡ in_run byte }
+{
+    !(is_blank(byte) || byte == b',' || byte == b'|')
 }
 
 /// What a name begins with.
@@ -26,7 +46,7 @@ fn is_start(byte: u8) -> bool
 }
 
 /// What a name consists of.
-fn is_name_byte(byte: u8) -> bool
+fn is_in_name(byte: u8) -> bool
     ensures { result ≡ in_name byte }
 {
     is_start(byte) || byte == b'+' || byte == b'-' || byte == b'.'
@@ -39,82 +59,25 @@ pub fn is_name(bytes: &[u8]) -> bool
     if bytes.len() < 2 || bytes.len() > 64 || !is_start(bytes[0]) {
         return false;
     }
-    for byte in bytes {
-        if !is_name_byte(*byte) {
-            return false;
-        }
-    }
-    true
+    bytes.iter().all(|byte| is_in_name(*byte))
 }
 
-/// Whether two strings of bytes are the same.
-pub fn same(some: &[u8], other: &[u8]) -> bool
-    ensures { result ≡ bytes_eq some.now other.now }
-{
-    some == other
-}
-
-/// A kind of bytes.
-pub trait Class {
-    ghost test: { ℕ → Bool };
-
-    fn has(byte: u8) -> bool
-        ensures { result ≡ test byte };
-}
-
-/// Blanks.
-pub struct Blanks;
-
-impl Class for Blanks {
-    ghost test = { blank };
-
-    fn has(byte: u8) -> bool {
-        is_blank(byte)
-    }
-}
-
-/// All bytes but the line feed.
-pub struct InLine;
-
-impl Class for InLine {
-    ghost test = { in_line };
-
-    fn has(byte: u8) -> bool {
-        byte != b'\n'
-    }
-}
-
-/// What a label consists of.
-pub struct InLabel;
-
-impl Class for InLabel {
-    ghost test = { in_label };
-
-    fn has(byte: u8) -> bool {
-        is_letter(byte) || byte.is_ascii_digit() || byte == b'-'
-    }
-}
-
-/// What stands between blanks, commas and bars.
-pub struct InRun;
-
-impl Class for InRun {
-    ghost test = { in_run };
-
-    fn has(byte: u8) -> bool {
-        !(is_blank(byte) || byte == b',' || byte == b'|')
-    }
-}
-
-/// Where the run of bytes of the class at `at` ends.
-pub fn scan<C: Class>(bytes: &[u8], at: usize) -> usize
-    ensures value { result ≡ at + prefix_len C.Class.test (drop at bytes.now) }
+/// Where the run of bytes at `at` that pass the test ends.
+pub fn scan<F: Fn(u8) -> bool>(bytes: &[u8], at: usize, test: F) -> usize
+    requires { F.IsAlwaysCallable test }
+    ensures value { (p : ℕ → Bool) → IsTest (F.post test) p → result ≡ at + prefix_len p (drop at bytes.now) }
     ensures onward { at ≤ result }
     ensures inside { at ≤ length bytes.now → result ≤ length bytes.now }
 {
-    let mut end = at;
-    while end < bytes.len() && C::has(bytes[end]) {
-        end += 1;
-    }
-    end
+    let start = at.min(bytes.len());
+    // The closure's clauses hand on what is known of the test.
+    at + bytes[start..]
+        .iter()
+        .take_while(
+            |byte: &&u8| -> bool
+                requires { F.pre test byte.now.now }
+                ensures { F.post test byte.now.now result }
+            { test(**byte) },
+        )
+        .count()
 }

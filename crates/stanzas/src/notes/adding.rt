@@ -1,56 +1,53 @@
 //! How notes grow: by the name of a component, by a clause, by conflicts.
-ghost use Rattle.std.specs.Prelude.{◌≡◌, ℕ, List, ◌++◌, map, OnOk};
-ghost use Rattle.refusals.specs.declared.Refusal.TheVariants.{TableFull};
-ghost use Rattle.texts.specs.declared.faults.Layer.TheVariants as layer;
+ghost use Rattle.std.specs.Prelude.{◌≡◌, map};
 ghost use Rattle.stanzas.specs.declared.lines.Relation.TheVariants.{Depends, Conflicts};
-ghost use Rattle.stanzas.specs.Notes.{start, fault, first_place, name_added, added};
+ghost use Rattle.stanzas.specs.Notes.{start, name_added, added};
 ghost use Rattle.stanzas.specs.Spans.{mention};
-ghost use Rattle.stanzas.specs.Views.{Leaves, clash_with, notes_of};
+ghost use Rattle.stanzas.specs.Views.{Leaves, notes_of};
 
 use super::{Clash, Need, Notes};
 use crate::lines::{Relation, Stanza};
 use refusals::Refusal;
 use sets::ComponentSet;
 use sheets::Sheet;
-use std::alloc::{AllocError, Global};
+use std::alloc::Global;
 use texts::faults::{Fault, Layer, ReadError};
 use texts::spans::{Span, find};
 
-impl Notes {
+impl<'a> Notes<'a> {
     /// Before the first line.
-    pub(crate) fn new(heap: Global) -> Notes
-        ensures { (text : List ℕ) → notes_of text result ≡ start }
+    pub(crate) fn new(heap: Global, text: &'a [u8]) -> Notes<'a>
+        ensures text { result.text.now ≡ text.now }
+        ensures start { notes_of result ≡ start }
     {
         Notes {
+            text,
             names: Vec::new(heap),
             needs: Vec::new(heap),
             clashes: Vec::new(heap),
-            stanza: Stanza::none(),
+            stanza: None,
         }
     }
 
     /// A stanza begins, and its component has this name.
-    pub(crate) fn add_name(&mut self, text: &[u8], name: Span) -> Result<(), ReadError>
-        ensures { Leaves result (name_added (notes_of text.now self.old) (mention text.now name)) (notes_of text.now self.new) }
+    pub(crate) fn add_name(&mut self, name: Span) -> Result<(), ReadError>
+        ensures { Leaves result (name_added (notes_of self.old) (mention self.old.text.now name)) self.old self.new }
     {
         let place = name.start;
-        if find(text, self.names.as_slice(), name.of(text)).is_some() {
-            return Err(ReadError::Faulty(in_file(Refusal::NameTwice, place)));
+        if find(self.text, self.names.as_slice(), name.of(self.text)).is_some() {
+            return Err(Fault::new(Refusal::NameTwice, Layer::File, place).into());
         }
         if self.names.len() >= ComponentSet::LIMIT {
-            return Err(ReadError::Faulty(in_file(Refusal::TooMany, place)));
+            return Err(Fault::new(Refusal::TooMany, Layer::File, place).into());
         }
         self.names.push(name)?;
-        self.stanza = Stanza {
-            named: true,
-            ..Stanza::none()
-        };
+        self.stanza = Some(Stanza::default());
         Ok(())
     }
 
     /// What stands between two commas is whole: a clause of the stanza's component, or conflicts.
     pub(crate) fn add(&mut self, relation: Relation, names: Vec<Span>) -> Result<(), ReadError>
-        ensures { (text : List ℕ) → Leaves result (added relation (notes_of text self.old) (map (mention text) names.items)) (notes_of text self.new) }
+        ensures { Leaves result (added relation (notes_of self.old) (map (mention self.old.text.now) names.items)) self.old self.new }
     {
         match relation {
             Relation::Depends => self.add_need(names),
@@ -60,10 +57,11 @@ impl Notes {
 
     /// A clause of the stanza's component.
     fn add_need(&mut self, names: Vec<Span>) -> Result<(), ReadError>
-        ensures { (text : List ℕ) → Leaves result (added Depends (notes_of text self.old) (map (mention text) names.items)) (notes_of text self.new) }
+        ensures { Leaves result (added Depends (notes_of self.old) (map (mention self.old.text.now) names.items)) self.old self.new }
     {
         if self.needs.len() >= Sheet::MAX_CLAUSES {
-            return Err(ReadError::Faulty(full(names.as_slice())));
+            let place = names.first().map_or(0, |name| name.start);
+            return Err(Fault::new(Refusal::TableFull, Layer::Field, place).into());
         }
         let owner = self.names.len().saturating_sub(1);
         self.needs.push(Need { owner, names })?;
@@ -72,46 +70,11 @@ impl Notes {
 
     /// Conflicts of the stanza's component.
     fn add_clashes(&mut self, names: &[Span]) -> Result<(), ReadError>
-        ensures { (text : List ℕ) → Leaves result (added Conflicts (notes_of text self.old) (map (mention text) names.now)) (notes_of text self.new) }
+        ensures { Leaves result (added Conflicts (notes_of self.old) (map (mention self.old.text.now) names.now)) self.old self.new }
     {
         let owner = self.names.len().saturating_sub(1);
-        push_clashes(&mut self.clashes, owner, names)?;
+        self.clashes
+            .extend(names.iter().map(|name| Clash { owner, name: *name }))?;
         Ok(())
-    }
-}
-
-/// A clash of the owner with each of the names.
-fn push_clashes(clashes: &mut Vec<Clash>, owner: usize, names: &[Span]) -> Result<(), AllocError>
-    ensures { OnOk result (clashes.new.items ≡ clashes.old.items ++ map (clash_with owner) names.now) }
-{
-    for name in names {
-        clashes.push(Clash { owner, name: *name })?;
-    }
-    Ok(())
-}
-
-/// A fault of the file.
-pub(crate) fn in_file(refusal: Refusal, place: usize) -> Fault
-    ensures { result ≡ fault refusal layer.File place }
-{
-    Fault {
-        refusal,
-        layer: Layer::File,
-        place,
-    }
-}
-
-/// A clause too many, at its first name.
-fn full(names: &[Span]) -> Fault
-    ensures { (text : List ℕ) → result ≡ fault TableFull layer.Field (first_place (map (mention text) names.now)) }
-{
-    let place = match names.first() {
-        Some(name) => name.start,
-        None => 0,
-    };
-    Fault {
-        refusal: Refusal::TableFull,
-        layer: Layer::Field,
-        place,
     }
 }

@@ -4,7 +4,14 @@ ghost use Rattle.std.specs.Prelude.{◌≡◌};
 use super::{Clash, Need, Notes};
 use texts::spans::Span;
 
-impl Notes {
+impl<'a> Notes<'a> {
+    /// The text from which they were taken.
+    pub fn text(&self) -> &'a [u8]
+        ensures { result.now ≡ self.now.text.now }
+    {
+        self.text
+    }
+
     /// The names of the components, by number.
     pub fn names(&self) -> &[Span]
         ensures { result.now ≡ self.now.names.items }
@@ -28,7 +35,7 @@ impl Notes {
 
     /// The names alone.
     pub fn into_names(self) -> Vec<Span>
-        ensures { result ≡ self.names }
+        ensures { result ≡ self.entry.names }
     {
         self.names
     }

@@ -1,22 +1,23 @@
 //! Reads the value of a field.
+ghost use Rattle.stanzas.specs.Spans.{IsFront};
 ghost use Rattle.stanzas.specs.Values.{single, related};
-ghost use Rattle.stanzas.specs.Cursors.{rest};
+ghost use Rattle.stanzas.specs.Cursors.{rest, end};
 ghost use Rattle.stanzas.specs.Views.{Leaves, notes_of};
 
 use super::Notes;
 use crate::cursor::{Cursor, Separator};
 use crate::lines::Relation;
-use std::alloc::Global;
 use std::mem;
 use texts::faults::ReadError;
 
-impl Notes {
+impl Notes<'_> {
     /// Reads the value of a `Package`.
-    pub(crate) fn read_package(&mut self, cursor: &mut Cursor<'_>) -> Result<(), ReadError>
-        ensures { Leaves result (single cursor.old.end (notes_of cursor.old.text.now self.old) (rest cursor.old)) (notes_of cursor.old.text.now self.new) }
+    pub(crate) fn read_package(&mut self, mut cursor: Cursor<'_>) -> Result<(), ReadError>
+        requires { IsFront cursor.text.now self.old.text.now }
+        ensures { Leaves result (single (end cursor.entry) (notes_of self.old) (rest cursor.entry)) self.old self.new }
     {
         let name = cursor.only_name()?;
-        self.add_name(cursor.text, name)?;
+        self.add_name(name)?;
         cursor.nothing_more()?;
         Ok(())
     }
@@ -24,15 +25,16 @@ impl Notes {
     /// Reads the value of a field that relates the stanza's component to others.
     pub(crate) fn read_related(
         &mut self,
-        heap: Global,
-        cursor: &mut Cursor<'_>,
+        mut cursor: Cursor<'_>,
         relation: Relation,
     ) -> Result<(), ReadError>
-        ensures { Leaves result (related relation cursor.old.end (notes_of cursor.old.text.now self.old) (rest cursor.old)) (notes_of cursor.old.text.now self.new) }
+        requires { IsFront cursor.text.now self.old.text.now }
+        ensures { Leaves result (related relation (end cursor.entry) (notes_of self.old) (rest cursor.entry)) self.old self.new }
     {
         if cursor.is_done() {
             return Ok(());
         }
+        let heap = *self.names.allocator();
         let mut clause = Vec::new(heap);
         loop {
             let name = cursor.name(relation)?;

@@ -1,19 +1,16 @@
-use Rattle.std.proofs.Common.{sym, arith}
-use Rattle.std.proofs.lemmas.List.Sums.{prefix_len-drop_yes, prefix_len-drop_no, prefix_len-drop_all}
+use Rattle.std.proofs.Common.{◌+◌, drop, rules, ap, ◌∙◌}
+use Rattle.std.specs.Slice.Iter.{iter_rest}
+use Rattle.std.proofs.lemmas.Iterator.{YieldsList-from_slice}
+use Rattle.std.proofs.lemmas.Iterator.Search.{YieldsList-from_take_while}
+use Rattle.std.proofs.lemmas.Iterator.Consumers.{count_from_yields_List}
+use Rattle.std.proofs.lemmas.List.Folds.{length-prefix_len}
+use Rattle.texts.proofs.Stretches.{behind}
 use Rattle.texts.proofs.bytes.scan.Goals as goal
 
-pub loop-end-preserved : goal.loop-end-preserved
-loop-end-preserved g c =
-    (omega arith, λ _. omega arith, omega (arith, prefix_len-drop_yes g.C.Class.test c.args.bytes.now c.loop-end.end 0 c.loop-end-test.true (sym c.if-has.ensures)))
-
-pub returns-else-has : goal.returns-else-has
-returns-else-has g c =
-    record {
-      value = omega (arith, prefix_len-drop_no g.C.Class.test c.args.bytes.now c.loop-end.end 0 c.loop-end-test.true (sym c.if-has.ensures));
-      onward = omega arith;
-      inside = λ h. c.loop-end.invariant.1 h;
-    }
-
-pub returns-after-loop-end : goal.returns-after-loop-end
-returns-after-loop-end g c =
-    record { value = omega (arith, prefix_len-drop_all g.C.Class.test c.args.bytes.now c.loop-end.end c.loop-end-test.false); onward = omega arith; inside = λ h. c.loop-end.invariant.1 h }
+pub returns-clause-value : goal.returns-clause-value
+returns-clause-value g c p tests =
+    let rest = drop c.args.at c.args.bytes.now in
+    ap (λ n. c.args.at + n)
+    (count_from_yields_List c.take_while.result _ c.count.ensures.ran
+    (YieldsList-from_take_while _ p (YieldsList-from_slice rest (ap iter_rest c.take_while.ensures.source ∙ c.iter.ensures.rest ∙ behind c.args.bytes.now c.args.at c.min-start.result c.min-start.ensures)) c.take_while.ensures.closure c.take_while.ensures.done (λ x b q k. (search rules, search (rules, tests))))
+    ∙ length-prefix_len p rest)

@@ -1,41 +1,58 @@
-use Rattle.std.proofs.Common.{◌+◌, false, drop, Err, sym, ap, ◌∙◌, arith}
-use Rattle.std.proofs.lemmas.Result.{err_from_is_err_and, IfOk-from_err}
-use Rattle.stanzas.specs.Lines.{lines}
-use Rattle.stanzas.specs.Files.{stanzas}
-use Rattle.stanzas.specs.Views.{notes_of}
-use Rattle.stanzas.proofs.FileSteps.{too_long, by_lines, gives_stopped, next_line, past_line, no_line}
+use Rattle.std.proofs.Common.{◌≡◌, Ok, sym, ap, ◌∙◌, arith}
+use Rattle.std.proofs.lemmas.Result.{err_from_is_err_and}
+use Rattle.stanzas.specs.Notes.{start, and_then}
+use Rattle.stanzas.specs.Files.{stanzas, reading}
+use Rattle.stanzas.specs.Views.{left, notes_of}
+use Rattle.stanzas.proofs.FileSteps.{by_lines, gives_stopped}
 use Rattle.stanzas.proofs.ReadBack.{read_back}
 use Rattle.stanzas.proofs.Sound.{reading_sound}
-use Rattle.stanzas.proofs.ValueSteps.{stops_then}
+use Rattle.stanzas.proofs.ValueSteps.{stops_then, stays}
 use Rattle.stanzas.proofs.notes.Notes.read.Goals as goal
+use Rattle.stanzas.proofs.notes.Notes.read.Goals.{In-None}
 
-pub returns-then-text-gt-MAX_BYTES : goal.returns-then-text-gt-MAX_BYTES
-returns-then-text-gt-MAX_BYTES c = record { value = too_long c.args.text.now c.if-text-gt-MAX_BYTES.true ∙ ap Err (sym c.in_file.ensures); sound = tt; plain = read_back }
+pub returns-then-text-gt-MAX_BYTES-clause-plain : goal.returns-then-text-gt-MAX_BYTES-clause-plain
+returns-then-text-gt-MAX_BYTES-clause-plain c = read_back
 
-pub returns-in_err-read_line : goal.returns-in_err-read_line
-returns-in_err-read_line c =
-    let text = c.args.text.now in
-    let n = notes_of text c.loop-at.notes in
-    let end = c.scan-end.result in
-    let p = err_from_is_err_and c.from_residual.result c.from_residual.ensures.1 in
-    record {
-      value = gives_stopped text _ p.0 _ _ p.1 p.2
-          (stops_then _ _ _ (λ m. stanzas m (lines false (end + 1) (drop (end + 1) text)))
-          (by_lines text (omega arith) ∙ c.loop-at.invariant ∙ next_line text n c.loop-at.at end c.loop-at-test.true c.scan-end.ensures.value)
-          c.in_err-read_line.ensures);
-      sound = IfOk-from_err c.from_residual.result _ c.from_residual.ensures.0;
-      plain = read_back;
+pub loop-line-init : goal.loop-line-init
+loop-line-init c =
+    let it = c.into_iter-line-iterator.ensures.into_iter_gives in record {
+      same = ap (λ s. s.text.now) it;
+      text = c.new-notes.ensures.text;
+      says = sym (ap (λ n. stanzas n (left c.into_iter-line-iterator.result)) c.new-notes.ensures.start ∙ ap (λ s. stanzas start (left s)) it);
     }
 
-pub loop-at-preserved : goal.loop-at-preserved
-loop-at-preserved c =
-    let text = c.args.text.now in
-    c.loop-at.invariant
-    ∙ past_line text (notes_of text c.loop-at.notes) c.loop-at.at c.scan-end.result c.loop-at-test.true c.scan-end.ensures.value (notes_of text c.read_line.new.self) c.in_ok-read_line.ensures
+pub read_line-requires : goal.read_line-requires
+read_line-requires c = stays _ _ _ (c.loop-line.invariant.text ∙ sym c.loop-line.invariant.same) c.in-Some.ensures.steps.1
 
-pub returns : goal.returns
-returns c =
-    let text = c.args.text.now in
-    let n = notes_of text c.loop-at.notes in
-    let is = by_lines text (omega arith) ∙ c.loop-at.invariant ∙ no_line text n c.loop-at.at c.loop-at-test.false in
-    record { value = is; sound = reading_sound text n is; plain = read_back }
+pub loop-line-preserved : goal.loop-line-preserved
+loop-line-preserved c = record {
+  same = c.in-Some.ensures.steps.2 ∙ c.loop-line.invariant.same;
+  text = c.in_ok-read_line.ensures.1 ∙ c.loop-line.invariant.text;
+  says = c.loop-line.invariant.says
+      ∙ ap (stanzas (notes_of c.loop-line.notes)) c.in-Some.ensures.steps.0
+      ∙ ap (λ q. and_then q (λ m. stanzas m (left c.next.new.self))) c.in_ok-read_line.ensures.0;
+}
+
+pub returns-in_err-read_line-clause-value : goal.returns-in_err-read_line-clause-value
+returns-in_err-read_line-clause-value c =
+    let p = err_from_is_err_and c.from_residual.result c.from_residual.ensures.1 in
+    gives_stopped c.args.text.now _ p.0 _ _ p.1 p.2
+    (stops_then _ _ _ (λ m. stanzas m (left c.next.new.self))
+    (by_lines c.args.text.now (omega arith) ∙ c.loop-line.invariant.says ∙ ap (stanzas (notes_of c.loop-line.notes)) c.in-Some.ensures.steps.0)
+    c.in_err-read_line.ensures)
+
+pub returns-in_err-read_line-clause-plain : goal.returns-in_err-read_line-clause-plain
+returns-in_err-read_line-clause-plain c = read_back
+
+-- once no line is left, the notes are what the file says
+said : (c : In-None) → reading c.args.text.now ≡ Ok (notes_of c.loop-line.notes)
+said c = by_lines c.args.text.now (omega arith) ∙ c.loop-line.invariant.says ∙ ap (stanzas (notes_of c.loop-line.notes)) c.in-None.ensures.steps
+
+pub returns-clause-value : goal.returns-clause-value
+returns-clause-value c = (said c, c.loop-line.invariant.text)
+
+pub returns-clause-sound : goal.returns-clause-sound
+returns-clause-sound c = reading_sound c.args.text.now (notes_of c.loop-line.notes) (said c)
+
+pub returns-clause-plain : goal.returns-clause-plain
+returns-clause-plain c = read_back

@@ -1,15 +1,16 @@
 use Rattle.std.proofs.Common.{◌≡◌, [], map, length, vec_items}
-use Rattle.stanzas.specs.Cursors.{rest, onward, Same}
-use Rattle.stanzas.specs.Spans.{mention}
+use Rattle.stanzas.specs.Cursors.{rest, onward}
+use Rattle.stanzas.specs.Spans.{IsFront, mention}
 use Rattle.stanzas.specs.Views.{notes_of}
 use Rattle.stanzas.proofs.notes.Notes.read_related.Given as goal
 
 -- what is left says, over the notes and the clause so far, what the whole value says
 abbrev pub invariant-loop-clause : goal.invariant-loop-clause
-invariant-loop-clause l =
-    Same l.initial.cursor l.cursor
-    × (onward l.relation l.initial.cursor (notes_of l.initial.cursor.text.now l.initial.self) []
-    ≡ onward l.relation l.cursor (notes_of l.initial.cursor.text.now l.self) (map (mention l.initial.cursor.text.now) (vec_items l.clause)))
+invariant-loop-clause l = record {
+  front : IsFront l.cursor.text.now l.self.text.now;
+  text : l.self.text.now ≡ l.initial.self.text.now;
+  says : onward l.relation l.initial.cursor (notes_of l.initial.self) [] ≡ onward l.relation l.cursor (notes_of l.self) (map (mention l.self.text.now) (vec_items l.clause));
+}
 
 abbrev pub decreases-loop-clause : goal.decreases-loop-clause
 decreases-loop-clause l = length (rest l.cursor)

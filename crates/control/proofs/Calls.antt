@@ -23,28 +23,30 @@ in_place : {X Y : Type 0} (f : X → Y) (xs items : List X) (k : ℕ) → items 
 in_place f xs items k same lt = omega (arith, length-map xs f, ap length same)
 
 -- one name of a choice more
-module _ (text : List ℕ) (names choice : List Span) (k : ℕ) (d : Span) (lt : k < length choice) (s : ℕ) (so_far : s ≡ known (map (stretch text) names) (map (stretch text) (take k choice)))
-    (name : List ℕ) (there : name ≡ stretch text (get_or choice k d)) where
-  more : known (map (stretch text) names) (map (stretch text) (take k choice) ++ name ∷ []) ≡ known (map (stretch text) names) (map (stretch text) (take (k + 1) choice))
-  more = ap (λ n. known (map (stretch text) names) (map (stretch text) (take k choice) ++ n ∷ [])) there ∙ ap (known (map (stretch text) names)) (sym (map_more (stretch text) choice k d lt))
+module _ (text : List ℕ) (names : List (List ℕ)) (choice : List Span) (k : ℕ) (d : Span) (lt : k < length choice) (s : ℕ) (so_far : s ≡ known names (map (stretch text) (take k choice))) where
+  more : known names (map (stretch text) (take k choice) ++ stretch text (get_or choice k d) ∷ []) ≡ known names (map (stretch text) (take (k + 1) choice))
+  more = ap (known names) (sym (map_more (stretch text) choice k d lt))
 
-  pub member_found : (i : ℕ) → Some i ≡ look_up 0 (map (stretch text) names) name → with_member s i ≡ known (map (stretch text) names) (map (stretch text) (take (k + 1) choice))
-  member_found i e = known_found (map (stretch text) names) (map (stretch text) (take k choice)) name s so_far i e ∙ more
+  pub member_found : (i : ℕ) → Some i ≡ look_up 0 names (stretch text (get_or choice k d)) → with_member s i ≡ known names (map (stretch text) (take (k + 1) choice))
+  member_found i e = known_found names (map (stretch text) (take k choice)) (stretch text (get_or choice k d)) s so_far i e ∙ more
 
-  pub member_unfound : None ≡ look_up 0 (map (stretch text) names) name → s ≡ known (map (stretch text) names) (map (stretch text) (take (k + 1) choice))
-  member_unfound e = known_unfound (map (stretch text) names) (map (stretch text) (take k choice)) name s so_far e ∙ more
+  pub member_unfound : None ≡ look_up 0 names (stretch text (get_or choice k d)) → s ≡ known names (map (stretch text) (take (k + 1) choice))
+  member_unfound e = known_unfound names (map (stretch text) (take k choice)) (stretch text (get_or choice k d)) s so_far e ∙ more
 
 -- one clause or conflict more
-module _ (text : List ℕ) (notes : Notes) (s : Sound (notes_of text notes)) (k : ℕ) where
+module _ (notes : Notes) (s : Sound (notes_of notes)) (k : ℕ) where
+  abbrev text : List ℕ
+  text = notes.text.now
+
   abbrev n : NotesModel
-  n = notes_of text notes
+  n = notes_of notes
 
   pub need_call : (items : List Need) (x : Need) → items ≡ vec_items notes.needs → k < length items → x ≡ get_or items k x
-      → (names choice : List Span) (members : ℕ) → names ≡ vec_items notes.names → choice ≡ vec_items x.names → members ≡ known (map (stretch text) names) (map (stretch text) choice)
+      → (choice : List Span) (members : ℕ) → choice ≡ vec_items x.names → members ≡ known n.names (map (stretch text) choice)
       → need_made (needs_up_to n k) x.owner members ≡ Ok (needs_up_to n (k + 1))
-  need_call items x same lt is names choice members named chosen meant =
+  need_call items x same lt is choice members chosen meant =
       let here = at_place (need_of text) (vec_items notes.needs) items k x same lt is in
-      let bits = meant ∙ ap₂ (λ (ns cs : List Span). known (map (stretch text) ns) (map (stretch text) cs)) named chosen in
+      let bits = meant ∙ ap (λ (cs : List Span). known n.names (map (stretch text) cs)) chosen in
       ap (λ (b : ℕ). need_made (needs_up_to n k) x.owner b) bits
       ∙ ap (λ (y : NeedModel). need_made (needs_up_to n k) y.owner (clause_of n.names y).members) (sym here)
       ∙ need_more n k (need_of text x) s (in_place (need_of text) (vec_items notes.needs) items k same lt)
@@ -53,7 +55,7 @@ module _ (text : List ℕ) (notes : Notes) (s : Sound (notes_of text notes)) (k 
     abbrev x : Clash
     x = get_or items k d
 
-    module _ (names : List Span) (name : List ℕ) (o : Option ℕ) (named : names ≡ vec_items notes.names) (there : name ≡ stretch text x.name) (found : o ≡ look_up 0 (map (stretch text) names) name) where
+    module _ (o : Option ℕ) (found : o ≡ look_up 0 n.names (stretch text x.name)) where
       here : get_or n.clashes k (clash_of text x) ≡ clash_of text x
       here = at_place (clash_of text) (vec_items notes.clashes) items k x same lt (get_or_default items k d x lt)
 
@@ -61,7 +63,7 @@ module _ (text : List ℕ) (notes : Notes) (s : Sound (notes_of text notes)) (k 
       within = in_place (clash_of text) (vec_items notes.clashes) items k same lt
 
       look : o ≡ look_up 0 n.names (get_or n.clashes k (clash_of text x)).name
-      look = found ∙ ap₂ (λ (ns : List Span) (b : List ℕ). look_up 0 (map (stretch text) ns) b) named there ∙ ap (λ (y : ClashModel). look_up 0 n.names y.name) (sym here)
+      look = found ∙ ap (λ (y : ClashModel). look_up 0 n.names y.name) (sym here)
 
       pub unknown_call : o ≡ None → clashes_up_to n k ≡ clashes_up_to n (k + 1)
       unknown_call e = clash_unknown n k (clash_of text x) s within (sym e ∙ look)

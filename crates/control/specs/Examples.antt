@@ -8,7 +8,7 @@ use Rattle.catalogue.specs.Drafts.{closed}
 use Rattle.catalogue.specs.Examples.{eight}
 use Rattle.texts.specs.declared.faults.Fault.{Fault}
 use Rattle.texts.specs.declared.faults.Layer.TheVariants as layer
-use Rattle.stanzas.specs.Notes.{fault}
+use Rattle.texts.specs.Faults.{fault}
 use Rattle.control.specs.Grounds.{Contents, contents}
 
 -- the bytes of examples/eight.control

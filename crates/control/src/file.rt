@@ -35,10 +35,11 @@ impl ControlFile {
         ensures examples { Examples }
     {
         let notes = Notes::read(heap, text.as_slice())?;
-        let catalogue = resolve(heap, text.as_slice(), &notes)?;
+        let catalogue = resolve(heap, &notes)?;
+        let names = notes.into_names();
         Ok(ControlFile {
             text,
-            names: notes.into_names(),
+            names,
             catalogue,
         })
     }
@@ -47,10 +48,8 @@ impl ControlFile {
     pub fn name(&self, component: usize) -> Result<&[u8], Refusal>
         ensures { MatchResult result (λ s. name_at (view self.now) component ≡ Ok s.now) (λ e. name_at (view self.now) component ≡ Err e) }
     {
-        match self.names.as_slice().get(component) {
-            Some(span) => Ok(span.of(self.text.as_slice())),
-            None => Err(Refusal::NoComponent),
-        }
+        let span = self.names.get(component).ok_or(Refusal::NoComponent)?;
+        Ok(span.of(self.text.as_slice()))
     }
 
     /// The number of the component with this name.

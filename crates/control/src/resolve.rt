@@ -1,15 +1,11 @@
 //! From names to components: the catalogue that notes describe.
-//!
-//! Notes keep the limits and their owners are components, so no call of the catalogue is declined.
-ghost use Rattle.std.specs.Prelude.{◌≡◌, ◌≤◌, map, length, IfOk};
-ghost use Rattle.sets.specs.Limit.{limit};
+ghost use Rattle.std.specs.Prelude.{◌≡◌, map, IfOk};
 ghost use Rattle.sheets.specs.Sheets.{model};
-ghost use Rattle.catalogue.specs.Drafts.{empty_draft, unrelated, closed};
-ghost use Rattle.texts.specs.Spans.{stretch};
+ghost use Rattle.catalogue.specs.Drafts.{closed};
+ghost use Rattle.texts.specs.Spans.{look_up, stretch};
 ghost use Rattle.stanzas.specs.Sound.{Sound};
 ghost use Rattle.stanzas.specs.Views.{notes_of};
 ghost use Rattle.control.specs.Grounds.{known, draft_of};
-ghost use Rattle.control.specs.Resolving.{unopposed};
 
 use catalogue::{ClosedCatalogue, OpenCatalogue};
 use sets::ComponentSet;
@@ -17,56 +13,44 @@ use stanzas::Notes;
 use std::alloc::{AllocError, Global};
 use texts::{Span, find};
 
+/// The component that a name means, if a stanza has it.
+fn meant(notes: &Notes<'_>, name: Span) -> Option<usize>
+    ensures { result ≡ look_up 0 (notes_of notes.now).names (stretch notes.now.text.now name) }
+{
+    find(notes.text(), notes.names(), name.of(notes.text()))
+}
+
 /// The components that the names of a choice mean.
-fn members(text: &[u8], names: &[Span], choice: &[Span]) -> ComponentSet
-    ensures { result ≡ known (map (stretch text.now) names.now) (map (stretch text.now) choice.now) }
+fn members(notes: &Notes<'_>, choice: &[Span]) -> ComponentSet
+    ensures { result ≡ known (notes_of notes.now).names (map (stretch notes.now.text.now) choice.now) }
 {
     let mut members = ComponentSet::empty();
     for name in choice {
-        if let Some(component) = find(text, names, name.of(text)) {
+        if let Some(component) = meant(notes, *name) {
             members = members.with(component);
         }
     }
     members
 }
 
-/// The clauses, in file order.
-fn add_needs(catalogue: &mut OpenCatalogue, text: &[u8], notes: &Notes)
-    requires { (Sound (notes_of text.now notes.now)) × (catalogue.old ≡ unrelated (length (notes_of text.now notes.now).names)) }
-    ensures { catalogue.new ≡ unopposed (notes_of text.now notes.now) }
+/// The catalogue that the notes describe: a component for each name, the clauses in file order, and the conflicts whose
+/// name means another component. Notes keep the limits and their owners are components, so no call is declined.
+pub(crate) fn resolve(heap: Global, notes: &Notes<'_>) -> Result<ClosedCatalogue, AllocError>
+    requires { Sound (notes_of notes.now) }
+    ensures { IfOk result (λ c. model c.sheet ≡ closed (draft_of (notes_of notes.now))) }
 {
+    let mut catalogue = OpenCatalogue::new(heap)?;
+    catalogue.add_components(notes.names().len()).unwrap();
     for need in notes.needs() {
-        let members = members(text, notes.names(), need.names.as_slice());
+        let members = members(notes, need.names.as_slice());
         catalogue.add_need(need.owner, members).unwrap();
     }
-}
-
-/// The conflicts whose name means another component.
-fn add_clashes(catalogue: &mut OpenCatalogue, text: &[u8], notes: &Notes)
-    requires { (Sound (notes_of text.now notes.now)) × (catalogue.old ≡ unopposed (notes_of text.now notes.now)) }
-    ensures { catalogue.new ≡ draft_of (notes_of text.now notes.now) }
-{
     for clash in notes.clashes() {
-        if let Some(other) = find(text, notes.names(), clash.name.of(text)) {
+        if let Some(other) = meant(notes, clash.name) {
             if other != clash.owner {
                 catalogue.add_clash(clash.owner, other).unwrap();
             }
         }
     }
-}
-
-/// The catalogue that the notes describe.
-pub(crate) fn resolve(
-    heap: Global,
-    text: &[u8],
-    notes: &Notes,
-) -> Result<ClosedCatalogue, AllocError>
-    requires { Sound (notes_of text.now notes.now) }
-    ensures { IfOk result (λ c. model c.sheet ≡ closed (draft_of (notes_of text.now notes.now))) }
-{
-    let mut catalogue = OpenCatalogue::new(heap)?;
-    catalogue.add_components(notes.names().len()).unwrap();
-    add_needs(&mut catalogue, text, notes);
-    add_clashes(&mut catalogue, text, notes);
     Ok(catalogue.close())
 }

@@ -1,14 +1,11 @@
 -- Filling a catalogue from notes: no call is declined.
-use Rattle.std.proofs.Common.{◌≡◌, ℕ, zero, suc, ◌+◌, ◌<◌, true, ltb, List, [], ◌∷◌, ◌++◌, map, length, get_or, take, replicate, is_ok, Some, None, Ok, Result, sym, ap, ◌∙◌, subst, arith}
+use Rattle.std.proofs.Common.{◌≡◌, ℕ, zero, suc, ◌+◌, ◌<◌, true, ltb, List, [], ◌∷◌, ◌++◌, map, length, get_or, take, replicate, Some, None, Ok, sym, ap, ◌∙◌, subst, arith}
 use Rattle.std.proofs.lemmas.List.FromFn.{length-map-range_with_len}
-use Rattle.std.proofs.lemmas.List.{length-map, length-replicate, length-take-le, map_more, replicate_more, take_more}
+use Rattle.std.proofs.lemmas.List.{length-map, length-replicate, length-take-le, map_more, take_more}
 use Rattle.std.proofs.lemmas.Bool.{and_from, and_parts, cond-true, cond-false, lt-ltb, ltb-true, ne_eqb}
-use Rattle.sets.specs.Limit.{limit}
 use Rattle.sets.specs.Sets.{within, below}
-use Rattle.refusals.specs.declared.Refusal.{Refusal}
-use Rattle.sheets.specs.Changes.{Goes}
 use Rattle.sheets.specs.Limits.{max_clauses}
-use Rattle.catalogue.specs.Drafts.{Draft, component_made, need_made, clash_made}
+use Rattle.catalogue.specs.Drafts.{Draft, need_made, clash_made}
 use Rattle.texts.specs.Spans.{look_up}
 use Rattle.stanzas.specs.Notes.{NeedModel, ClashModel, NotesModel}
 use Rattle.stanzas.specs.Sound.{needs_owned, clashes_owned, Sound}

@@ -1,7 +1,6 @@
 pub mod Meanings
 pub mod Conflicts
 pub mod Filling
-pub mod Names
 pub mod Calls
 pub mod Examples
 pub mod Laws

@@ -28,6 +28,7 @@ pub struct ControlFile {
 
 impl ControlFile {
     /// Reads a control file. An error is the first fault in it, or want of memory.
+    #[tactic(auto, using(crate::proofs::Laws::holds_written, crate::proofs::Laws::conflicts_named, crate::proofs::Examples::examples))]
     pub fn read(heap: Global, text: Vec<u8>) -> Result<ControlFile, ReadError>
         ensures value { Holds text.items result }
         ensures written { HoldsWritten }

@@ -12,9 +12,9 @@ use std::io::Read;
 use texts::ReadError;
 
 /// Standard input to its end, or one byte more than a file may have.
-fn read_input(rt: &HostRuntime) -> io::Result<Vec<u8>> {
+fn read_input(rt: &(impl Input + AllocGlobal)) -> io::Result<Vec<u8>> {
     let mut text = Vec::new(rt.alloc());
-    rt.stdin()
+    rt.reader()
         .take(Notes::MAX_BYTES as u64 + 1)
         .read_to_end(&mut text)?;
     Ok(text)
@@ -28,10 +28,10 @@ fn kernel_size(heap: Global, text: Vec<u8>) -> Result<KernelSize, ReadError>
     Ok(pile.kernel_size())
 }
 
-fn run(rt: &HostRuntime) -> anyhow::Result<()> {
+fn run(rt: &(impl Input + Print + AllocGlobal)) -> anyhow::Result<()> {
     match kernel_size(rt.alloc(), read_input(rt)?) {
         Ok(size) => println!(rt; "{size}")?,
-        Err(ReadError::Faulty(fault)) => println!(rt; "(refused {fault})")?,
+        Err(ReadError::Refused(fault)) => println!(rt; "(refused {fault})")?,
         Err(error) => return Err(error.into()),
     }
     Ok(())

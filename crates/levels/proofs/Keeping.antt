@@ -44,43 +44,43 @@ keeps_over a b c f g f' g' w k l = record {
 
 -- ---- piles over the ground s whose every reduction keeps its law
 
-pub data Sturdy (s : SheetModel) : PileModel → Type 0 where
-  lone : Sturdy s (ground s)
-  more : (p : PileModel) (r : Rules) (o : Own) → Sturdy s p → Sound r → Reached r (top p) o → Sturdy s (raised p r o)
+pub data Lawful (s : SheetModel) : PileModel → Type 0 where
+  lone : Lawful s (ground s)
+  more : (p : PileModel) (r : Rules) (o : Own) → Lawful s p → Sound r → Reached r (top p) o → Lawful s (raised p r o)
 
-pub sturdy_after : (s : SheetModel) (p : PileModel) (c : Call) → Sturdy s p → Sturdy s (after p c)
-sturdy_after s p (raise r d) h = more p r (r.start (top p)) h d started
-sturdy_after s _ (step u v) lone = lone
-sturdy_after s _ (step u v) (more p r o h d m) = more p r (settled o (r.moved (top p) o u v)) h d (stepped u v m)
-sturdy_after s _ sweep lone = lone
-sturdy_after s _ sweep (more p r o h d m) = more p r (r.swept (top p) o).left h d (swept m)
-sturdy_after s p read h = h
+pub lawful_after : (s : SheetModel) (p : PileModel) (c : Call) → Lawful s p → Lawful s (after p c)
+lawful_after s p (raise r d) h = more p r (r.start (top p)) h d started
+lawful_after s _ (step u v) lone = lone
+lawful_after s _ (step u v) (more p r o h d m) = more p r (settled o (r.moved (top p) o u v)) h d (stepped u v m)
+lawful_after s _ sweep lone = lone
+lawful_after s _ sweep (more p r o h d m) = more p r (r.swept (top p) o).left h d (swept m)
+lawful_after s p read h = h
 
-pub sturdy_run : (s : SheetModel) (p : PileModel) (cs : List Call) → Sturdy s p → Sturdy s (run p cs)
-sturdy_run s p [] h = h
-sturdy_run s p (c ∷ cs) h = sturdy_run s (after p c) cs (sturdy_after s p c h)
+pub lawful_run : (s : SheetModel) (p : PileModel) (cs : List Call) → Lawful s p → Lawful s (run p cs)
+lawful_run s p [] h = h
+lawful_run s p (c ∷ cs) h = lawful_run s (after p c) cs (lawful_after s p c h)
 
-pub base_is : (s : SheetModel) (p : PileModel) → Sturdy s p → base p ≡ s
+pub base_is : (s : SheetModel) (p : PileModel) → Lawful s p → base p ≡ s
 base_is s _ lone = refl
 base_is s _ (more p r o h d m) = base_is s p h
 
 module _ (s : SheetModel) (w : Formed s) where
-  pub formed_top : (p : PileModel) → Sturdy s p → Formed (top p)
+  pub formed_top : (p : PileModel) → Lawful s p → Formed (top p)
   formed_top _ lone = w
   formed_top _ (more p r o h d m) = (d.lawful (top p) (formed_top p h) o m).formed
 
-  pub faithful : (p : PileModel) → Sturdy s p → Keeps s (top p) (image p) (lift p)
+  pub faithful : (p : PileModel) → Lawful s p → Keeps s (top p) (image p) (lift p)
   faithful _ lone = keeps_itself s w
   faithful _ (more p r o h d m) = keeps_over s (top p) o.sheet (image p) (lift p) o.image o.lift (formed_top p h) (faithful p h) (d.lawful (top p) (formed_top p h) o m).keeps
 
-  pub throughout : (p : PileModel) → Sturdy s p → Throughout (Faithful s) p
+  pub throughout : (p : PileModel) → Lawful s p → Throughout (Faithful s) p
   throughout _ lone = record { grounded = refl; keeps = keeps_itself s w }
   throughout _ (more p r o h d m) = (throughout p h, record { grounded = base_is s p h; keeps = faithful (raised p r o) (more p r o h d m) })
 
 -- ---- runs
 
 pub main_law : MainLaw
-main_law s w cs = throughout s w (run (ground s) cs) (sturdy_run s (ground s) cs lone)
+main_law s w cs = throughout s w (run (ground s) cs) (lawful_run s (ground s) cs lone)
 
 -- one call more
 pub made_after : (p q : PileModel) (c : Call) → Made p → q ≡ after p c → Made q
@@ -93,7 +93,7 @@ made_after p q c m is = record {
 
 pub made_keeps : (p : PileModel) → Made p → Throughout (Faithful (base p)) p
 made_keeps p m =
-    let h = subst (Sturdy m.from) (sym m.is) (sturdy_run m.from (ground m.from) m.calls lone) in
+    let h = subst (Lawful m.from) (sym m.is) (lawful_run m.from (ground m.from) m.calls lone) in
     subst (λ s. Throughout (Faithful s) p) (sym (base_is m.from p h)) (throughout m.from m.formed p h)
 
 -- ---- from an invariant of its own a reduction has its law

@@ -1,9 +1,10 @@
 -- Levels over a ground: what a pile of them means.
-use Rattle.std.specs.Prelude.{ℕ, zero, suc, ◌^◌, cond, Ok, Err, Result, bit_or}
-use Rattle.sets.specs.Sets.{has, within}
+use Rattle.std.specs.Prelude.{length, ℕ, zero, suc, ◌^◌, cond, Ok, Err, Result, bit_or}
+use Rattle.sets.specs.Sets.{has, within, count}
 use Rattle.refusals.specs.declared.Refusal.{Refusal}
 use Rattle.refusals.specs.declared.Refusal.TheVariants.{NoComponent}
 use Rattle.sheets.specs.Sheets.{SheetModel}
+use Rattle.levels.specs.declared.pile.KernelSize.{KernelSize}
 
 -- What a reduction adds to the level below it: its own sheet, an own image of each component below, and an own lift of its sets to sets below.
 pub record Own : Type 0 where
@@ -68,3 +69,7 @@ imaged p i = cond (has (base p).present i) (Ok (image p i)) (Err NoComponent)
 -- what the look-up of a lift answers
 abbrev pub lifted : PileModel → ℕ → Result ℕ Refusal
 lifted p x = cond (within x (top p).present) (Ok (lift p x)) (Err NoComponent)
+
+-- the kernel of a pile: the size of its ground, and the components and clauses of its top
+abbrev pub size_of : PileModel → KernelSize
+size_of p = record { ground = (base p).size; components = count (top p).present; clauses = length (top p).clauses }

@@ -1,7 +1,6 @@
-ghost use Rattle.std.specs.Prelude.{◌≡◌, length, MatchResult};
-ghost use Rattle.sets.specs.Sets.{count};
+ghost use Rattle.std.specs.Prelude.{◌≡◌, MatchResult};
 ghost use Rattle.sheets.specs.Changes.{Goes};
-ghost use Rattle.levels.specs.Piles.{ground, raised, top, base, own};
+ghost use Rattle.levels.specs.Piles.{ground, raised, top, base, own, size_of};
 ghost use Rattle.levels.specs.Laws.{Sound};
 ghost use Rattle.levels.specs.Runs.{MainLaw, Made, Faithful, Throughout, after_step, after_sweep};
 
@@ -51,9 +50,7 @@ impl<L: Level> Pile<L> {
     /// The size of the ground, and how many components and clauses are left at the top.
     #[tactic(auto, using(crate::proofs::Keeping::made_keeps))]
     pub fn kernel_size(&self) -> KernelSize
-        ensures ground { result.ground ≡ (base (L.pile self.now)).size }
-        ensures components { result.components ≡ count (top (L.pile self.now)).present }
-        ensures clauses { result.clauses ≡ length (top (L.pile self.now)).clauses }
+        ensures size { result ≡ size_of (L.pile self.now) }
         ensures faithful { Throughout (Faithful (base (L.pile self.now))) (L.pile self.now) }
     {
         KernelSize {

@@ -13,8 +13,8 @@ fn worked_example() -> &'static [u8]
 }
 
 /// Says whether standard input has them.
-pub fn example_trial(rt: &HostRuntime) -> io::Result<()> {
+pub fn example_trial(rt: &(impl Print + Input + AllocGlobal)) -> io::Result<()> {
     let mut text = Vec::new(rt.alloc());
-    rt.stdin().read_to_end(&mut text)?;
+    rt.reader().read_to_end(&mut text)?;
     println!(rt; "example: {}", text.as_slice() == worked_example())
 }

@@ -17,7 +17,7 @@ use texts::ReadError;
 /// How many names and clauses of a ground are printed: the last ones.
 const SHOWN: usize = 8;
 
-fn print_name(rt: &HostRuntime, name: &[u8]) -> io::Result<()> {
+fn print_name(rt: &impl Print, name: &[u8]) -> io::Result<()> {
     match std::str::from_utf8(name) {
         Ok(text) => print!(rt; " {text}"),
         Err(_) => rt.print(" (not ASCII)"),
@@ -25,7 +25,7 @@ fn print_name(rt: &HostRuntime, name: &[u8]) -> io::Result<()> {
 }
 
 /// The names, each if it leads back to its component. Behind the last there is none, and none is `absent`.
-fn print_names(rt: &HostRuntime, file: &ControlFile) -> io::Result<()> {
+fn print_names(rt: &impl Print, file: &ControlFile) -> io::Result<()> {
     let size = file.size();
     print!(rt; "{} names", file.present().len())?;
     for component in size.saturating_sub(SHOWN)..size {
@@ -45,62 +45,58 @@ fn print_names(rt: &HostRuntime, file: &ControlFile) -> io::Result<()> {
 }
 
 /// Each clause as owner and members.
-fn print_needs(rt: &HostRuntime, file: &ControlFile) -> io::Result<()> {
+fn print_needs(rt: &impl Print, file: &ControlFile) -> io::Result<()> {
     let count = file.clause_count();
     print!(rt; "; {count} needs")?;
     for place in count.saturating_sub(SHOWN)..count {
-        if let Ok(owner) = file.owner(place) {
-            if let Ok(members) = file.members(place) {
-                print!(rt; " {owner}{members:?}")?;
-            }
+        if let (Ok(owner), Ok(members)) = (file.owner(place), file.members(place)) {
+            print!(rt; " {owner}{members:?}")?;
         }
     }
     Ok(())
 }
 
 /// Each component that has conflicts, and its conflict set.
-fn print_clashes(rt: &HostRuntime, file: &ControlFile) -> io::Result<()> {
+fn print_clashes(rt: &impl Print, file: &ControlFile) -> io::Result<()> {
     rt.print("; clashes")?;
-    for component in 0..file.size() {
-        if let Ok(others) = file.conflicts(component) {
-            if !others.is_empty() {
-                print!(rt; " {component}{others:?}")?;
-            }
+    for component in file.present() {
+        if let Ok(others) = file.conflicts(component)
+            && !others.is_empty()
+        {
+            print!(rt; " {component}{others:?}")?;
         }
     }
     rt.println("")
 }
 
-fn print_ground(rt: &HostRuntime, file: &ControlFile) -> io::Result<()> {
+fn print_ground(rt: &impl Print, file: &ControlFile) -> io::Result<()> {
     print_names(rt, file)?;
     print_needs(rt, file)?;
     print_clashes(rt, file)
 }
 
 /// The outcome of reading a text, in one line.
-fn trial(rt: &HostRuntime, number: usize, text: Vec<u8>) -> io::Result<()> {
+fn trial(rt: &(impl Print + AllocGlobal), number: usize, text: Vec<u8>) -> io::Result<()> {
     print!(rt; "{number}: ")?;
     match ControlFile::read(rt.alloc(), text) {
         Ok(file) => print_ground(rt, &file),
-        Err(ReadError::Faulty(fault)) => println!(rt; "(refused {fault})"),
+        Err(ReadError::Refused(fault)) => println!(rt; "(refused {fault})"),
         Err(ReadError::OutOfMemory) => rt.println("out of memory"),
     }
 }
 
 /// Reads texts that begin with the head and end with one of the tails.
-fn table(rt: &HostRuntime, first: usize, head: &[u8], tails: &[&[u8]]) -> io::Result<()> {
-    let mut number = first;
-    for tail in tails {
+fn table(rt: &(impl Print + AllocGlobal), first: usize, head: &[u8], tails: &[&[u8]]) -> io::Result<()> {
+    for (number, tail) in (first..).zip(tails) {
         let mut text = head.to_vec(rt.alloc())?;
         text.extend_from_slice(tail)?;
         trial(rt, number, text)?;
-        number = number.saturating_add(1);
     }
     Ok(())
 }
 
 /// The small texts about lines and fields.
-fn line_trials(rt: &HostRuntime) -> io::Result<()> {
+fn line_trials(rt: &(impl Print + AllocGlobal)) -> io::Result<()> {
     table(rt, 100, b"", small::LINES)?;
     table(rt, 200, b"", small::LABELS)?;
     table(rt, 300, b"", small::CONTINUATIONS)?;
@@ -108,7 +104,7 @@ fn line_trials(rt: &HostRuntime) -> io::Result<()> {
 }
 
 /// The small texts about values, and what they mean.
-fn value_trials(rt: &HostRuntime) -> io::Result<()> {
+fn value_trials(rt: &(impl Print + AllocGlobal)) -> io::Result<()> {
     table(rt, 500, b"", small::PACKAGES)?;
     table(rt, 600, b"", small::NAMES)?;
     table(rt, 700, b"", small::DEPENDS)?;
@@ -117,14 +113,14 @@ fn value_trials(rt: &HostRuntime) -> io::Result<()> {
 }
 
 /// Texts with 512 clauses, and what follows them.
-fn clause_trials(rt: &HostRuntime) -> io::Result<()> {
+fn clause_trials(rt: &(impl Print + AllocGlobal)) -> io::Result<()> {
     let head = repeated(rt.alloc(), b"Package: map\nDepends: map", b", map", 511)?;
     table(rt, 1000, head.as_slice(), small::AFTER_CLAUSES)
 }
 
 /// Texts with 64 components that have the same lines, and what follows them.
 fn component_trials(
-    rt: &HostRuntime,
+    rt: &(impl Print + AllocGlobal),
     first: usize,
     lines: &[u8],
     tails: &[&[u8]],
@@ -134,17 +130,15 @@ fn component_trials(
 }
 
 /// Texts of one length.
-fn length_trials(rt: &HostRuntime, first: usize, length: usize) -> io::Result<()> {
-    let mut number = first;
-    for (head, filler) in small::HEADS {
+fn length_trials(rt: &(impl Print + AllocGlobal), first: usize, length: usize) -> io::Result<()> {
+    for (number, (head, filler)) in (first..).zip(small::HEADS) {
         let missing = length.saturating_sub(head.len());
         trial(rt, number, repeated(rt.alloc(), head, filler, missing)?)?;
-        number = number.saturating_add(1);
     }
     Ok(())
 }
 
-fn run(rt: &HostRuntime) -> io::Result<()> {
+fn run(rt: &(impl Print + Input + AllocGlobal)) -> io::Result<()> {
     example_trial(rt)?;
     line_trials(rt)?;
     value_trials(rt)?;

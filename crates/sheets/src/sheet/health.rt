@@ -1,8 +1,6 @@
 //! Which components of a sheet can stand together.
-ghost use Rattle.std.specs.Prelude.{◌≡◌, ℕ, ◌<◌, ◌≤◌, true, ◌&&◌, length, Decides};
-ghost use Rattle.sets.specs.Limit.{limit};
-ghost use Rattle.sets.specs.Sets.{has, Has, Subset, Apart, collect};
-ghost use Rattle.sheets.specs.Clauses.{clause_at, row};
+ghost use Rattle.std.specs.Prelude.{◌≡◌, ℕ, Decides};
+ghost use Rattle.sets.specs.Sets.{has, Subset};
 ghost use Rattle.sheets.specs.Sheets.{model};
 ghost use Rattle.sheets.specs.Health.{Healthy, Fed, is_clear, clear};
 ghost use Rattle.sheets.specs.Support.{Supported, unmet, narrowed, support, free};

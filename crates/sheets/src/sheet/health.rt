@@ -7,7 +7,6 @@ ghost use Rattle.sheets.specs.Support.{Supported, unmet, narrowed, support, free
 ghost use Rattle.sheets.specs.Examples.{Examples};
 
 use super::Sheet;
-use crate::clause::Clause;
 use sets::ComponentSet;
 
 impl Sheet {
@@ -16,10 +15,7 @@ impl Sheet {
     pub fn is_healthy(&self, set: ComponentSet) -> bool
         ensures { Decides result (Healthy (model self.now) set) }
     {
-        if !set.is_subset(self.present) {
-            return false;
-        }
-        if set.intersects(self.unmet(set)) {
+        if !set.is_subset(self.present) || set.intersects(self.unmet(set)) {
             return false;
         }
         for (i, conflicts) in self.conflicts.iter().enumerate() {

@@ -1,46 +1,44 @@
 -- Closing a catalogue: the records' clashes become conflicts, one record after the other.
-use Rattle.std.proofs.Common.{◌≡◌, ℕ, ◌+◌, ◌<◌, ◌≤◌, true, false, ltb, ◌⊎◌, List, map, length, Result, sym, refl, ap, ◌∙◌, subst, inl, inr, arith}
+use Rattle.std.proofs.Common.{◌≡◌, ℕ, ◌+◌, ◌<◌, ◌≤◌, true, false, ltb, ◌⊎◌, List, map, length, Ok, Result, sym, refl, ap, ◌∙◌, subst, inl, inr, arith}
 use Rattle.std.specs.List.{range_with_len}
 use Rattle.std.proofs.lemmas.List.FromFn.{fill_by_all}
 use Rattle.std.proofs.lemmas.List.{get_or_past}
 use Rattle.std.proofs.lemmas.Bool.{cases_Bool, cases_eq, cases_lt, both_ways, lt-ltb, and_from, and_parts, or_cases, or_left, or_right}
 use Rattle.sets.specs.Limit.{limit}
 use Rattle.sets.specs.Sets.{has, Has, within, below, collect}
-use Rattle.sets.specs.declared.ComponentSet.{ComponentSet}
 use Rattle.sets.proofs.Membership.{has_empty, has_below_all, has_collect}
 use Rattle.sets.proofs.Order.{decides_sub, sub_antisym}
 use Rattle.refusals.specs.declared.Refusal.{Refusal}
-use Rattle.sheets.specs.Clauses.{row, no_set}
+use Rattle.sheets.specs.Clauses.{row}
 use Rattle.sheets.specs.Changes.{Goes, with_conflicts, opposed, conflicts_added}
 use Rattle.sheets.specs.Sheets.{SheetModel, Formed}
 use Rattle.sheets.proofs.Forms.{Opposes, before, forward, backward, opposed_from, opposed_has, present_below, present_limit}
 use Rattle.catalogue.specs.Drafts.{Draft, clash, closed_row, closed}
-use Rattle.catalogue.specs.Notes.{no_record, noted, Filled}
-use Rattle.catalogue.specs.declared.records.ComponentRecord.{ComponentRecord}
+use Rattle.catalogue.specs.Notes.{noted, Filled}
 
 -- one of i and j has noted the other, and its record is among the first k
-pub data Noted (rs : List ComponentRecord) (k i j : ℕ) : Type 0 where
+pub data Noted (rs : List ℕ) (k i j : ℕ) : Type 0 where
   ahead : i < k → Has (noted rs i) j → Noted rs k i j
   behind : j < k → Has (noted rs j) i → Noted rs k i j
 
 -- the sheet e once the first k records are done
-pub record Closing (e m : SheetModel) (rs : List ComponentRecord) (k : ℕ) : Type 0 where
+pub record Closing (e m : SheetModel) (rs : List ℕ) (k : ℕ) : Type 0 where
   pub same : m ≡ with_conflicts e m.conflicts
   pub from : (i j : ℕ) → Has (row m.conflicts i) j → Noted rs k i j
   pub all : (i j : ℕ) → Noted rs k i j → Has (row m.conflicts i) j
 
 -- ---- what the records name
 
-noted_below : (rs : List ComponentRecord) (p q : ℕ) → Has (noted rs p) q → p < length rs
+noted_below : (rs : List ℕ) (p q : ℕ) → Has (noted rs p) q → p < length rs
 noted_below rs p q h = go (cases_lt p (length rs))
   where
     go : (p < length rs) ⊎ (length rs ≤ p) → p < length rs
     go (inl lt) = lt
     go (inr le) =
-        let none : noted rs p ≡ 0 = ap (λ r. r.clashes.bits) (get_or_past rs p no_record le) in
+        let none : noted rs p ≡ 0 = ap (λ (r : ℕ). r) (get_or_past rs p 0 le) in
         absurd (both_ways (has (noted rs p) q) (ap (λ s. has s q) none ∙ has_empty q) h)
 
-module _ (e : SheetModel) (rs : List ComponentRecord) (f : Filled e rs) (w : Formed e) where
+module _ (e : SheetModel) (rs : List ℕ) (f : Filled e rs) (w : Formed e) where
   named_below : (p q : ℕ) → Has (noted rs p) q → q < length rs
   named_below p q h = omega (arith, f.counted, present_below e w q ((decides_sub (noted rs p) e.present).0 (f.known p) q h))
 
@@ -79,13 +77,13 @@ module _ (e : SheetModel) (rs : List ComponentRecord) (f : Filled e rs) (w : For
     named = subst (λ s. within (noted rs k) s ≡ true) (sym present_is) (f.known k)
 
     -- the addition is obeyed
-    obeyed : (r : Result (Unit {0}) Refusal) (n : SheetModel) → Goes (conflicts_added m k (noted rs k)) tt r m n → n ≡ with_conflicts m (opposed m.conflicts k (noted rs k))
-    obeyed r n g = (rw (and_from (has m.present k) (within (noted rs k) m.present) here named, f.foreign k) at g).1
+    pub obeyed : (r : Result (Unit {0}) Refusal) (n : SheetModel) → Goes (conflicts_added m k (noted rs k)) tt r m n → (r ≡ Ok tt) × (n ≡ with_conflicts m (opposed m.conflicts k (noted rs k)))
+    obeyed r n g = rw (and_from (has m.present k) (within (noted rs k) m.present) here named, f.foreign k) at g
 
     pub closing_more : (r : Result (Unit {0}) Refusal) (n : SheetModel) → Goes (conflicts_added m k (noted rs k)) tt r m n → Closing e n rs (k + 1)
-    closing_more r n g = subst (λ x. Closing e x rs (k + 1)) (sym (obeyed r n g)) (record { same = ap (λ x. with_conflicts x (opposed table k qs)) c.same; from = from; all = all })
+    closing_more r n g = subst (λ x. Closing e x rs (k + 1)) (sym (obeyed r n g).1) (record { same = ap (λ x. with_conflicts x (opposed table k qs)) c.same; from = from; all = all })
       where
-        table : List ComponentSet
+        table : List ℕ
         table = m.conflicts
 
         qs : ℕ
@@ -142,7 +140,7 @@ module _ (e : SheetModel) (rs : List ComponentRecord) (f : Filled e rs) (w : For
     pub closed_is : m ≡ closed d
     closed_is =
         let table : m.conflicts ≡ map (closed_row d) (range_with_len 0 (length rs)) =
-        fill_by_all (closed_row d) m.conflicts (length rs) no_set (v.rows ∙ ap (λ x. x.size) c.same ∙ sym f.counted) (λ i lt. ap (λ b. record { bits = b }) (row_is i)) in
+        fill_by_all (closed_row d) m.conflicts (length rs) 0 (v.rows ∙ ap (λ x. x.size) c.same ∙ sym f.counted) (λ i lt. row_is i) in
         let n : e.size ≡ length rs = sym f.counted in
         let p : e.present ≡ below (length rs) = f.whole ∙ ap below n in
         c.same ∙ cc

@@ -1,48 +1,22 @@
 -- What an open catalogue keeps as it is filled.
-use Rattle.std.proofs.Common.{◌≡◌, ℕ, zero, suc, ◌+◌, ◌^◌, ◌<◌, ◌≤◌, Bool, true, false, cond, ◌&&◌, ◌||◌, eqb, ltb, ◌⊎◌, List, [], ◌∷◌, ◌++◌, length, set, Ok, Err, vec_items, vec_len, vec_capacity, Result, Vec, sym, refl, ap, ◌∙◌, subst, ap₂, inl, inr, arith}
+use Rattle.std.proofs.Common.{◌≡◌, ℕ, zero, suc, ◌+◌, ◌^◌, ◌<◌, ◌≤◌, Bool, true, false, cond, ◌&&◌, ◌||◌, eqb, ltb, ◌⊎◌, List, [], ◌∷◌, ◌++◌, length, set, Ok, Err, Result, sym, refl, ap, ◌∙◌, subst, ap₂, inl, inr, arith}
 use lib.Bits.{bit_or}
-use Rattle.std.specs.declared.alloc.Global.{Global}
 use Rattle.std.proofs.lemmas.List.{get_or-set_same, get_or-set_other, length-set, length_push}
 use Rattle.std.proofs.lemmas.Bool.{cases_eq, cases_lt, cases_order, lt-ltb, eqb-true, ne_eqb, or_cases, or_from, and_parts, and_from, and_left}
 use Rattle.std.proofs.lemmas.Bool.Decides.{nat_tests}
 use Rattle.sets.specs.Limit.{limit}
 use Rattle.sets.specs.Sets.{has, Has, within, with_member, below}
-use Rattle.sets.specs.declared.ComponentSet.{ComponentSet}
 use Rattle.sets.proofs.Membership.{has_or, has_single, has_empty, has_with, has_below_all, same_members}
 use Rattle.sets.proofs.Order.{decides_sub, sub_none, sub_or_left}
 use Rattle.refusals.specs.declared.Refusal.{Refusal}
 use Rattle.refusals.specs.declared.Refusal.TheVariants.{TableFull, NoComponent}
 use Rattle.sheets.specs.Changes.{Goes, blank, grown, with_clauses, clause_added}
 use Rattle.sheets.specs.Limits.{max_clauses}
-use Rattle.sheets.specs.Sheets.{SheetModel, model}
+use Rattle.sheets.specs.Sheets.{SheetModel}
 use Rattle.sheets.specs.declared.clause.Clause.{Clause}
-use Rattle.sheets.specs.declared.sheet.Sheet.{Sheet}
 use Rattle.sheets.proofs.Forms.{within_more, blank_rows, row_grown}
 use Rattle.catalogue.specs.Drafts.{Draft, is_made, need_made}
-use Rattle.catalogue.specs.Notes.{no_record, noted, Known, Foreign, Unopposed, Filled}
-use Rattle.catalogue.specs.declared.opened.OpenCatalogue.{OpenCatalogue}
-use Rattle.catalogue.specs.declared.records.ComponentRecord.{ComponentRecord}
-
-pub filled : (c : OpenCatalogue) → Filled (model c.sheet) (vec_items c.records)
-filled c = record {
-  counted = sym c.records.ok.0 ∙ c.counted;
-  whole = c.whole;
-  unopposed = c.unopposed;
-  known = c.known;
-  foreign = c.foreign;
-}
-
--- the invariants of the type `OpenCatalogue`, in their order
-pub sealed : (s : Sheet) (rs : Vec ComponentRecord Global) → Filled (model s) (vec_items rs) → limit ≤ vec_capacity rs
-    → record {
-      counted : vec_len rs ≡ (model s).size;
-      whole : (model s).present ≡ below (model s).size;
-      room : limit ≤ vec_capacity rs;
-      unopposed : Unopposed (model s).conflicts;
-      known : Known (model s).present (vec_items rs);
-      foreign : Foreign (vec_items rs);
-    }
-sealed s rs f room = record { counted = rs.ok.0 ∙ f.counted; whole = f.whole; room = room; unopposed = f.unopposed; known = f.known; foreign = f.foreign }
+use Rattle.catalogue.specs.Notes.{noted, Filled}
 
 -- ---- no component yet
 
@@ -65,7 +39,7 @@ filled_blank = record {
 
 -- ---- one component more
 
-noted_grown : (rs : List ComponentRecord) (r : ComponentRecord) → r.clashes.bits ≡ 0 → (p : ℕ) → noted (rs ++ r ∷ []) p ≡ noted rs p
+noted_grown : (rs : List ℕ) (r : ℕ) → r ≡ 0 → (p : ℕ) → noted (rs ++ r ∷ []) p ≡ noted rs p
 noted_grown [] r e zero = e
 noted_grown [] r e (suc p) = blank_noted p
 noted_grown (x ∷ rs) r e zero = refl
@@ -80,7 +54,7 @@ below_more n lt =
     ways : (i : ℕ) → ((ltb i n && ltb i limit) || eqb i n) ≡ (ltb i (n + 1) && ltb i limit)
     ways i = elim (cases_order i n) [ inl e ↦ grind (arith, nat_tests) | inr o ↦ elim o [ inl l ↦ grind (arith, nat_tests) | inr l ↦ grind (arith, nat_tests) ] ]
 
-pub filled_grown : (m : SheetModel) (rs : List ComponentRecord) (r : ComponentRecord) → r.clashes.bits ≡ 0 → m.size < limit → Filled m rs → Filled (grown m) (rs ++ r ∷ [])
+pub filled_grown : (m : SheetModel) (rs : List ℕ) (r : ℕ) → r ≡ 0 → m.size < limit → Filled m rs → Filled (grown m) (rs ++ r ∷ [])
 filled_grown m rs r e lt f = record {
   counted = length_push rs r ∙ ap (λ n. n + 1) f.counted;
   whole = ap (λ s. bit_or s (2 ^ m.size)) f.whole ∙ below_more m.size lt;
@@ -91,10 +65,10 @@ filled_grown m rs r e lt f = record {
 
 -- ---- one clause more
 
-module _ (m n : SheetModel) (rs : List ComponentRecord) (p : ℕ) (qs : ComponentSet) (r : Result (Unit {0}) Refusal) (f : Filled m rs) (small : m.size ≤ limit)
+module _ (m n : SheetModel) (rs : List ℕ) (p : ℕ) (qs : ℕ) (r : Result (Unit {0}) Refusal) (f : Filled m rs) (small : m.size ≤ limit)
     (goes : Goes (clause_added m (record { owner = p; members = qs })) tt r m n) where
   abbrev told : Bool
-  told = has m.present p && within qs.bits m.present
+  told = has m.present p && within qs m.present
 
   abbrev room : Bool
   room = ltb (length m.clauses) max_clauses
@@ -106,10 +80,10 @@ module _ (m n : SheetModel) (rs : List ComponentRecord) (p : ℕ) (qs : Componen
   drafted cs = record { clauses = cs; records = rs }
 
   -- which numbers were made
-  made : told ≡ (is_made (drafted m.clauses) p && within qs.bits (below (length rs)))
+  made : told ≡ (is_made (drafted m.clauses) p && within qs (below (length rs)))
   made =
-      ap (λ s. has s p && within qs.bits s) present_is
-      ∙ ap (λ t. t && within qs.bits (below (length rs))) (has_below_all (length rs) p ∙ inside (cases_lt p (length rs)))
+      ap (λ s. has s p && within qs s) present_is
+      ∙ ap (λ t. t && within qs (below (length rs))) (has_below_all (length rs) p ∙ inside (cases_lt p (length rs)))
     where
       present_is : m.present ≡ below (length rs)
       present_is = f.whole ∙ ap below (sym f.counted)
@@ -140,14 +114,14 @@ module _ (m n : SheetModel) (rs : List ComponentRecord) (p : ℕ) (qs : Componen
 
 -- ---- one clash more
 
-noted_at : (rs : List ComponentRecord) (p : ℕ) (r : ComponentRecord) → p < length rs → noted (set rs p r) p ≡ r.clashes.bits
-noted_at rs p r lt = ap (λ x. x.clashes.bits) (get_or-set_same rs p r no_record lt)
+noted_at : (rs : List ℕ) (p : ℕ) (r : ℕ) → p < length rs → noted (set rs p r) p ≡ r
+noted_at rs p r lt = ap (λ (x : ℕ). x) (get_or-set_same rs p r 0 lt)
 
-noted_other : (rs : List ComponentRecord) (p i : ℕ) (r : ComponentRecord) → (i ≡ p → ⊥) → noted (set rs p r) i ≡ noted rs i
-noted_other rs p i r n = ap (λ x. x.clashes.bits) (get_or-set_other rs p i r no_record n)
+noted_other : (rs : List ℕ) (p i : ℕ) (r : ℕ) → (i ≡ p → ⊥) → noted (set rs p r) i ≡ noted rs i
+noted_other rs p i r n = ap (λ (x : ℕ). x) (get_or-set_other rs p i r 0 n)
 
-pub filled_clash : (m : SheetModel) (rs : List ComponentRecord) (p q : ℕ) (r : ComponentRecord) → p < length rs → q < length rs → (p ≡ q → ⊥) → m.size ≤ limit
-    → r.clashes.bits ≡ with_member (noted rs p) q → Filled m rs → Filled m (set rs p r)
+pub filled_clash : (m : SheetModel) (rs : List ℕ) (p q : ℕ) (r : ℕ) → p < length rs → q < length rs → (p ≡ q → ⊥) → m.size ≤ limit
+    → r ≡ with_member (noted rs p) q → Filled m rs → Filled m (set rs p r)
 filled_clash m rs p q r lp lq ne small e f = record {
   counted = length-set rs p r ∙ f.counted;
   whole = f.whole;

@@ -1,3 +1,4 @@
 pub mod Filling
 pub mod Closing
 mod Examples
+pub mod Calls

@@ -1,25 +1,19 @@
 -- An open catalogue as it is filled, and the sheet that it closes to.
-use Rattle.std.specs.Prelude.{ℕ, Bool, cond, ◌&&◌, ◌||◌, List, [], ◌∷◌, ◌++◌, map, length, Ok, Err, vec_items, Result, ◌==◌, nat_lt, slice_set}
+use Rattle.std.specs.Prelude.{ℕ, ◌+◌, nat_le, replicate, Bool, cond, ◌&&◌, ◌||◌, List, [], ◌∷◌, ◌++◌, map, length, Ok, Err, Result, ◌==◌, nat_lt, slice_set}
 use Rattle.std.specs.List.{range_with_len}
 use Rattle.sets.specs.Limit.{limit}
 use Rattle.sets.specs.Sets.{has, within, with_member, below, collect}
-use Rattle.sets.specs.declared.ComponentSet.{ComponentSet}
 use Rattle.refusals.specs.declared.Refusal.{Refusal}
 use Rattle.refusals.specs.declared.Refusal.TheVariants.{TooMany, TableFull, NoComponent, SelfClash}
 use Rattle.sheets.specs.Limits.{max_clauses}
-use Rattle.sheets.specs.Sheets.{SheetModel, model}
+use Rattle.sheets.specs.Sheets.{SheetModel}
 use Rattle.sheets.specs.declared.clause.Clause.{Clause}
-use Rattle.catalogue.specs.Notes.{no_record, noted}
-use Rattle.catalogue.specs.declared.records.ComponentRecord.{ComponentRecord}
-use Rattle.catalogue.specs.declared.opened.OpenCatalogue.{OpenCatalogue}
+use Rattle.catalogue.specs.Notes.{noted}
 
--- the clauses in the order of the calls, and one record for each component
+-- the clauses in the order of the calls, and for each component the set of those that it was said to clash with
 pub record Draft : Type 0 where
   pub clauses : List Clause
-  pub records : List ComponentRecord
-
-abbrev pub draft : OpenCatalogue → Draft
-draft c = record { clauses = (model c.sheet).clauses; records = vec_items c.records }
+  pub records : List ℕ
 
 abbrev pub empty_draft : Draft
 empty_draft = record { clauses = []; records = [] }
@@ -30,18 +24,26 @@ is_made d p = nat_lt p (length d.records)
 
 -- one component more, numbered by how many there were
 abbrev pub component_made : Draft → Result Draft Refusal
-component_made d = cond (nat_lt (length d.records) limit) (Ok (record { clauses = d.clauses; records = d.records ++ no_record ∷ [] })) (Err TooMany)
+component_made d = cond (nat_lt (length d.records) limit) (Ok (record { clauses = d.clauses; records = d.records ++ 0 ∷ [] })) (Err TooMany)
+
+-- n components more, or none where they would pass the limit
+abbrev pub components_made : Draft → ℕ → Result Draft Refusal
+components_made d n = cond (nat_le (length d.records + n) limit) (Ok (record { clauses = d.clauses; records = d.records ++ replicate n 0 })) (Err TooMany)
+
+-- n components of which nothing is known yet
+abbrev pub unrelated : ℕ → Draft
+unrelated n = record { clauses = []; records = replicate n 0 }
 
 -- p needs one of qs
-abbrev pub need_made : Draft → ℕ → ComponentSet → Result Draft Refusal
+abbrev pub need_made : Draft → ℕ → ℕ → Result Draft Refusal
 need_made d p qs =
-    cond (is_made d p && within qs.bits (below (length d.records)))
+    cond (is_made d p && within qs (below (length d.records)))
     (cond (nat_lt (length d.clauses) max_clauses) (Ok (record { clauses = d.clauses ++ (record { owner = p; members = qs }) ∷ []; records = d.records })) (Err TableFull))
     (Err NoComponent)
 
 -- p's record with q
-abbrev pub with_clash : Draft → ℕ → ℕ → ComponentRecord
-with_clash d p q = record { clashes = record { bits = with_member (noted d.records p) q } }
+abbrev pub with_clash : Draft → ℕ → ℕ → ℕ
+with_clash d p q = with_member (noted d.records p) q
 
 -- p clashes with q, noted at p
 abbrev pub clash_made : Draft → ℕ → ℕ → Result Draft Refusal
@@ -55,8 +57,8 @@ abbrev pub clash : Draft → ℕ → ℕ → Bool
 clash d p q = has (noted d.records p) q || has (noted d.records q) p
 
 -- the conflict set of p, with what the others noted
-abbrev pub closed_row : Draft → ℕ → ComponentSet
-closed_row d p = record { bits = collect (clash d p) (length d.records) }
+abbrev pub closed_row : Draft → ℕ → ℕ
+closed_row d p = collect (clash d p) (length d.records)
 
 -- the sheet that the catalogue closes to
 abbrev pub closed : Draft → SheetModel

@@ -1,23 +1,17 @@
 -- The eight exhibits as a catalogue, and what they close to, computed from the definitions.
-use Rattle.std.specs.Prelude.{◌≡◌, ℕ, [], ◌∷◌, length}
+use Rattle.std.specs.Prelude.{◌≡◌, [], ◌∷◌, length}
 use Rattle.sets.specs.Sets.{count}
-use Rattle.sheets.specs.Examples.{set_of, need_of}
+use Rattle.sheets.specs.Examples.{need_of}
 use Rattle.sheets.specs.Health.{clear}
 use Rattle.sheets.specs.Sheets.{conflicts_of}
 use Rattle.sheets.specs.Support.{free}
 use Rattle.catalogue.specs.Drafts.{Draft, closed}
-use Rattle.catalogue.specs.Notes.{no_record}
-use Rattle.catalogue.specs.declared.records.ComponentRecord.{ComponentRecord}
-
--- the record of a component that clashes with these
-abbrev pub clashing : ℕ → ComponentRecord
-clashing s = record { clashes = set_of s }
 
 -- 0 map, 1 timeline, 2 font, 3 font-lite, 4 loop, 5 player, 6 codec-a, 7 codec-b
 abbrev pub eight : Draft
 eight = record {
   clauses = need_of 0 0b10 ∷ need_of 0 0b1100 ∷ need_of 1 0b1 ∷ need_of 4 0b100000 ∷ need_of 5 0b11000000 ∷ [];
-  records = no_record ∷ no_record ∷ no_record ∷ no_record ∷ clashing 0b10 ∷ no_record ∷ clashing 0b10000000 ∷ no_record ∷ [];
+  records = 0 ∷ 0 ∷ 0 ∷ 0 ∷ 0b10 ∷ 0 ∷ 0b10000000 ∷ 0 ∷ [];
 }
 
 pub record Examples : Type 0 where

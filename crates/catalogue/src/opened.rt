@@ -1,26 +1,30 @@
-ghost use Rattle.std.specs.Prelude.{◌≡◌, ◌≤◌, vec_len, vec_capacity};
-ghost use Rattle.sets.specs.Limit.{limit};
-ghost use Rattle.sets.specs.Sets.{below};
-ghost use Rattle.sheets.specs.Sheets.{model};
-ghost use Rattle.catalogue.specs.Notes.{Known, Foreign, Unopposed};
-
 use crate::records::ComponentRecord;
 use sheets::Sheet;
+use std::marker::Model;
 
 mod calls;
 
 /// A catalogue that is being filled. Its sheet has the components and clauses so far; the clashes stand in the
-/// records, one for each component, until the catalogue is closed.
+/// records, one for each component, until the catalogue is closed. A contract sees it as a draft.
 ///
-/// All the memory that it and the closed catalogue need is taken when it is made.
+/// All the memory that it and the closed catalogue need is taken when it is made: that is why there are records beside
+/// the conflict sets of the sheet, which are empty until then.
 #[derive(Drop)]
 pub struct OpenCatalogue {
     sheet: Sheet,
     records: Vec<ComponentRecord>,
-    ghost counted: { vec_len records ≡ (model sheet).size },
-    ghost whole: { (model sheet).present ≡ below (model sheet).size },
-    ghost room: { limit ≤ vec_capacity records },
-    ghost unopposed: { Unopposed (model sheet).conflicts },
-    ghost known: { Known (model sheet).present records.items },
-    ghost foreign: { Foreign records.items },
+}
+
+impl Model for OpenCatalogue {
+    ghost use Rattle.std.specs.Prelude.{◌≤◌, vec_capacity};
+    ghost use Rattle.sets.specs.Limit.{limit};
+    ghost use Rattle.sheets.specs.Sheets.{model};
+    ghost use Rattle.catalogue.specs.Notes.{Filled};
+    ghost use Rattle.catalogue.specs.Drafts.{Draft};
+
+    ghost Value = { Draft };
+
+    ghost view = { λ c. record { clauses = (model c.sheet).clauses; records = c.records.items } };
+
+    ghost invariant = { λ c. Filled (model c.sheet) c.records.items × (limit ≤ vec_capacity c.records) };
 }

@@ -2,17 +2,30 @@ ghost use Rattle.std.specs.Prelude.{◌≡◌};
 ghost use Rattle.sets.specs.Sets.{with_member};
 
 use sets::ComponentSet;
+use std::marker::Model;
 
 /// What an open catalogue keeps of one component: the components that it was said to clash with.
-#[derive(Clone, Copy)]
+///
+/// A contract sees it as their set.
+#[derive(Clone, Copy, PartialEq, Eq, Hash, Debug, Default)]
 pub struct ComponentRecord {
     clashes: ComponentSet,
+}
+
+impl Model for ComponentRecord {
+    ghost use Rattle.std.specs.Prelude.{ℕ};
+
+    ghost Value = { ℕ };
+
+    ghost view = { λ r. r.clashes };
+
+    ghost inverse = { λ n. record { clashes = n } };
 }
 
 impl ComponentRecord {
     /// The record of a component without clashes.
     pub fn new() -> Self
-        ensures { result.clashes.bits ≡ 0 }
+        ensures { result ≡ 0 }
     {
         ComponentRecord {
             clashes: ComponentSet::empty(),
@@ -21,17 +34,15 @@ impl ComponentRecord {
 
     /// The noted clashes.
     pub fn clashes(&self) -> ComponentSet
-        ensures { result ≡ self.now.clashes }
+        ensures { result ≡ self.now }
     {
         self.clashes
     }
 
     /// Notes one more clash.
     pub fn note(&mut self, component: usize)
-        ensures { self.new.clashes.bits ≡ with_member self.old.clashes.bits component }
+        ensures { self.new ≡ with_member self.old component }
     {
-        *self = ComponentRecord {
-            clashes: self.clashes.with(component),
-        };
+        self.clashes = self.clashes.with(component);
     }
 }

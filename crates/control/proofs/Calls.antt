@@ -2,7 +2,6 @@
 use Rattle.std.proofs.Common.{◌≡◌, ℕ, ◌+◌, ◌<◌, List, [], ◌∷◌, ◌++◌, map, length, get_or, take, Some, None, Ok, vec_items, Option, sym, ap, ◌∙◌, subst, ap₂, arith}
 use Rattle.std.proofs.lemmas.List.{get_or_default, get_or-map, length-map, map_more}
 use Rattle.sets.specs.Sets.{with_member}
-use Rattle.sets.specs.declared.ComponentSet.{ComponentSet}
 use Rattle.catalogue.specs.Drafts.{need_made, clash_made}
 use Rattle.texts.specs.Spans.{look_up, stretch}
 use Rattle.texts.specs.declared.spans.Span.{Span}
@@ -41,12 +40,12 @@ module _ (text : List ℕ) (notes : Notes) (s : Sound (notes_of text notes)) (k 
   n = notes_of text notes
 
   pub need_call : (items : List Need) (x : Need) → items ≡ vec_items notes.needs → k < length items → x ≡ get_or items k x
-      → (names choice : List Span) (members : ComponentSet) → names ≡ vec_items notes.names → choice ≡ vec_items x.names → members.bits ≡ known (map (stretch text) names) (map (stretch text) choice)
+      → (names choice : List Span) (members : ℕ) → names ≡ vec_items notes.names → choice ≡ vec_items x.names → members ≡ known (map (stretch text) names) (map (stretch text) choice)
       → need_made (needs_up_to n k) x.owner members ≡ Ok (needs_up_to n (k + 1))
   need_call items x same lt is names choice members named chosen meant =
       let here = at_place (need_of text) (vec_items notes.needs) items k x same lt is in
       let bits = meant ∙ ap₂ (λ (ns cs : List Span). known (map (stretch text) ns) (map (stretch text) cs)) named chosen in
-      ap (λ (b : ℕ). need_made (needs_up_to n k) x.owner (record { bits = b })) bits
+      ap (λ (b : ℕ). need_made (needs_up_to n k) x.owner b) bits
       ∙ ap (λ (y : NeedModel). need_made (needs_up_to n k) y.owner (clause_of n.names y).members) (sym here)
       ∙ need_more n k (need_of text x) s (in_place (need_of text) (vec_items notes.needs) items k same lt)
 

@@ -8,8 +8,7 @@ use Rattle.std.proofs.lemmas.Bool.Decides.{nat_tests}
 use Rattle.sets.specs.Limit.{limit}
 use Rattle.sets.specs.Sets.{with_member, collect}
 use Rattle.sets.proofs.Membership.{has_with, has_collect, no_members, same_members}
-use Rattle.catalogue.specs.Notes.{no_record, noted}
-use Rattle.catalogue.specs.declared.records.ComponentRecord.{ComponentRecord}
+use Rattle.catalogue.specs.Notes.{noted}
 use Rattle.texts.specs.Spans.{look_up}
 use Rattle.stanzas.specs.Notes.{ClashModel}
 use Rattle.control.specs.Grounds.{is_found, against, opposes, record_of, records_of}
@@ -29,7 +28,7 @@ against_push names (d ∷ cs) c i j =
 -- ---- conflicts that say nothing
 
 same_records : (names : List (List ℕ)) (cs ds : List ClashModel) → ((i j : ℕ) → opposes names cs i j ≡ opposes names ds i j) → records_of names cs ≡ records_of names ds
-same_records names cs ds h = λ k. map (λ i. record { clashes = record { bits = collect (λ j. h i j k) (length names) } }) (range_with_len 0 (length names))
+same_records names cs ds h = λ k. map (λ i. collect (λ j. h i j k) (length names)) (range_with_len 0 (length names))
 
 module _ (names : List (List ℕ)) (cs : List ClashModel) (c : ClashModel) where
   pub unknown_same : None ≡ look_up 0 names c.name → records_of names (cs ++ c ∷ []) ≡ records_of names cs
@@ -54,7 +53,7 @@ module _ (names : List (List ℕ)) (cs : List ClashModel) (c : ClashModel) where
     told : (i j : ℕ) → opposes names (cs ++ c ∷ []) i j ≡ (not (eqb i j) && (against names cs i j || (eqb c.owner i && eqb q j)))
     told i j = ap (λ t. not (eqb i j) && t) (against_push names cs c i j ∙ ap (λ f. against names cs i j || (eqb c.owner i && is_found f j)) (sym found))
 
-    pub here : (record_of names (cs ++ c ∷ []) c.owner).clashes.bits ≡ with_member (record_of names cs c.owner).clashes.bits q
+    pub here : record_of names (cs ++ c ∷ []) c.owner ≡ with_member (record_of names cs c.owner) q
     here =
         same_members _ _
         (λ j. has_collect (opposes names (cs ++ c ∷ []) c.owner) (length names) j
@@ -68,43 +67,43 @@ module _ (names : List (List ℕ)) (cs : List ClashModel) (c : ClashModel) where
         ways a o j ne (inr n) = grind (arith, nat_tests)
 
     there : (i : ℕ) → (i ≡ c.owner → ⊥) → record_of names cs i ≡ record_of names (cs ++ c ∷ []) i
-    there i ne = λ k. record { clashes = record { bits = collect (λ j. sym (told i j ∙ ap (λ t. not (eqb i j) && t) (ways (against names cs i j) (eqb q j) (ne_eqb c.owner i (λ e. ne (sym e))))) k) (length names) } }
+    there i ne = λ k. collect (λ j. sym (told i j ∙ ap (λ t. not (eqb i j) && t) (ways (against names cs i j) (eqb q j) (ne_eqb c.owner i (λ e. ne (sym e))))) k) (length names)
       where
         ways : (a b : Bool) {t : Bool} → t ≡ false → (a || (t && b)) ≡ a
         ways a b e = grind arith
 
     -- the owner's record with the conflict in it
-    pub clash_records : c.owner < length names → set (records_of names cs) c.owner (record { clashes = record { bits = with_member (noted (records_of names cs) c.owner) q } }) ≡ records_of names (cs ++ c ∷ [])
+    pub clash_records : c.owner < length names → set (records_of names cs) c.owner (with_member (noted (records_of names cs) c.owner) q) ≡ records_of names (cs ++ c ∷ [])
     clash_records lt =
-        fill_by_all (record_of names (cs ++ c ∷ [])) (set rs c.owner new) (length names) no_record (length-set rs c.owner new ∙ length-map-range_with_len (record_of names cs) 0 (length names))
+        fill_by_all (record_of names (cs ++ c ∷ [])) (set rs c.owner new) (length names) 0 (length-set rs c.owner new ∙ length-map-range_with_len (record_of names cs) 0 (length names))
         (λ i h. ways i h (cases_eq i c.owner))
       where
-        rs : List ComponentRecord
+        rs : List ℕ
         rs = records_of names cs
 
-        new : ComponentRecord
-        new = record { clashes = record { bits = with_member (noted (records_of names cs) c.owner) q } }
+        new : ℕ
+        new = with_member (noted (records_of names cs) c.owner) q
 
-        old : (i : ℕ) → i < length names → get_or (records_of names cs) i no_record ≡ record_of names cs i
-        old i h = get_or-map-range_with_len (record_of names cs) 0 (length names) i i no_record h (omega arith)
+        old : (i : ℕ) → i < length names → get_or (records_of names cs) i 0 ≡ record_of names cs i
+        old i h = get_or-map-range_with_len (record_of names cs) 0 (length names) i i 0 h (omega arith)
 
-        ways : (i : ℕ) → i < length names → (i ≡ c.owner) ⊎ (i ≡ c.owner → ⊥) → get_or (set (records_of names cs) c.owner (record { clashes = record { bits = with_member (noted (records_of names cs) c.owner) q } })) i no_record ≡ record_of names (cs ++ c ∷ []) i
+        ways : (i : ℕ) → i < length names → (i ≡ c.owner) ⊎ (i ≡ c.owner → ⊥) → get_or (set (records_of names cs) c.owner (with_member (noted (records_of names cs) c.owner) q)) i 0 ≡ record_of names (cs ++ c ∷ []) i
         ways i h (inl e) =
-            ap (λ k. get_or (set (records_of names cs) c.owner (record { clashes = record { bits = with_member (noted (records_of names cs) c.owner) q } })) k no_record) e
-            ∙ get_or-set_same (records_of names cs) c.owner _ no_record (omega (arith, length-map-range_with_len (record_of names cs) 0 (length names)))
-            ∙ ap (λ (b : ℕ). record { clashes = record { bits = b } }) (ap (λ r. with_member r.clashes.bits q) (old c.owner lt) ∙ sym here)
+            ap (λ k. get_or (set (records_of names cs) c.owner (with_member (noted (records_of names cs) c.owner) q)) k 0) e
+            ∙ get_or-set_same (records_of names cs) c.owner _ 0 (omega (arith, length-map-range_with_len (record_of names cs) 0 (length names)))
+            ∙ (ap (λ r. with_member r q) (old c.owner lt) ∙ sym here)
             ∙ ap (record_of names (cs ++ c ∷ [])) (sym e)
-        ways i h (inr n) = get_or-set_other (records_of names cs) c.owner i _ no_record n ∙ old i h ∙ there i n
+        ways i h (inr n) = get_or-set_other (records_of names cs) c.owner i _ 0 n ∙ old i h ∙ there i n
 
 -- ---- no conflicts yet
 
-pub none_opposed : (names : List (List ℕ)) → replicate (length names) no_record ≡ records_of names []
+pub none_opposed : (names : List (List ℕ)) → replicate (length names) 0 ≡ records_of names []
 none_opposed names =
-    fill_by_all (record_of names []) (replicate (length names) no_record) (length names) no_record (length-replicate (length names) no_record)
-    (λ i h. get_or-replicate (length names) i no_record no_record h ∙ ap (λ (b : ℕ). record { clashes = record { bits = b } }) (sym (none i)))
+    fill_by_all (record_of names []) (replicate (length names) 0) (length names) 0 (length-replicate (length names) 0)
+    (λ i h. get_or-replicate (length names) i 0 0 h ∙ sym (none i))
   where
     ways : (a b : Bool) → (a && (b && false)) ≡ false
     ways a b = grind arith
 
-    none : (i : ℕ) → (record_of names [] i).clashes.bits ≡ 0
+    none : (i : ℕ) → record_of names [] i ≡ 0
     none i = no_members _ (λ j. has_collect (opposes names [] i) (length names) j ∙ ways (ltb j (length names)) (not (eqb i j)))

@@ -9,30 +9,12 @@ use Rattle.refusals.specs.declared.Refusal.{Refusal}
 use Rattle.sheets.specs.Changes.{Goes}
 use Rattle.sheets.specs.Limits.{max_clauses}
 use Rattle.catalogue.specs.Drafts.{Draft, component_made, need_made, clash_made}
-use Rattle.catalogue.specs.Notes.{no_record}
-use Rattle.catalogue.specs.declared.records.ComponentRecord.{ComponentRecord}
 use Rattle.texts.specs.Spans.{look_up}
 use Rattle.stanzas.specs.Notes.{NeedModel, ClashModel, NotesModel}
 use Rattle.stanzas.specs.Sound.{needs_owned, clashes_owned, Sound}
 use Rattle.control.specs.Grounds.{known, clause_of, record_of, records_of}
-use Rattle.control.specs.Resolving.{unrelated}
 use Rattle.control.proofs.Conflicts.{unknown_same, own_same, clash_records}
 use Rattle.control.proofs.Meanings.{found_below, known_within}
-
--- a call f on the draft d, which is x; on x it gives y
-module _ {U : Type 0} (f : Draft → Result Draft Refusal) (d x y n : Draft) (u : U) (r : Result U Refusal) (same : d ≡ x) (gives : f x ≡ Ok y) (goes : Goes (f d) u r d n) where
-  pub obeyed : (is_ok r ≡ true) × (n ≡ y)
-  obeyed = let answer = subst (λ q. Goes q u r d n) (ap f same ∙ gives) goes in (ap is_ok answer.0, answer.1)
-
--- ---- components
-
-pub one_more : (k : ℕ) → k < limit → component_made (unrelated k) ≡ Ok (unrelated (k + 1))
-one_more k lt =
-    let within : ltb (length (replicate k no_record)) limit ≡ true = lt-ltb (length (replicate k no_record)) limit (omega (arith, length-replicate k no_record)) in
-    rw within (ap (λ (rs : List ComponentRecord). Ok (with_records rs)) (replicate_more k no_record))
-  where
-    with_records : List ComponentRecord → Draft
-    with_records rs = record { clauses = []; records = rs }
 
 -- ---- clauses
 
@@ -43,19 +25,19 @@ needs_owner size (n ∷ ns) (suc k) d h lt = needs_owner size ns k d (and_parts 
 
 -- with the first k clauses
 abbrev pub needs_up_to : NotesModel → ℕ → Draft
-needs_up_to n k = record { clauses = map (clause_of n.names) (take k n.needs); records = replicate (length n.names) no_record }
+needs_up_to n k = record { clauses = map (clause_of n.names) (take k n.needs); records = replicate (length n.names) 0 }
 
 pub need_more : (n : NotesModel) (k : ℕ) (d : NeedModel) → Sound n → k < length n.needs
     → need_made (needs_up_to n k) (get_or n.needs k d).owner (clause_of n.names (get_or n.needs k d)).members ≡ Ok (needs_up_to n (k + 1))
 need_more n k d s lt =
-    let size = length (replicate (length n.names) no_record) in
-    let made : size ≡ length n.names = length-replicate (length n.names) no_record in
+    let size : ℕ = length (replicate {A = ℕ} (length n.names) 0) in
+    let made : length (replicate {A = ℕ} (length n.names) 0) ≡ length n.names = length-replicate {A = ℕ} (length n.names) 0 in
     let x = get_or n.needs k d in
     let owned = lt-ltb x.owner size (omega (arith, made, needs_owner (length n.names) n.needs k d s.needs_have_owners lt)) in
     let named = subst (λ (m : ℕ). within (known n.names x.names) (below m) ≡ true) (sym made) (known_within n.names x.names) in
     let room = lt-ltb (length (map (clause_of n.names) (take k n.needs))) max_clauses
     (omega (arith, length-map (take k n.needs) (clause_of n.names), length-take-le k n.needs (omega arith), s.room)) in
-    cond-true _ _ _ (and_from _ _ owned named) ∙ cond-true _ _ _ room ∙ ap (λ cs. Ok (record { clauses = cs; records = replicate (length n.names) no_record })) (sym (map_more (clause_of n.names) n.needs k d lt))
+    cond-true _ _ _ (and_from _ _ owned named) ∙ cond-true _ _ _ room ∙ ap (λ cs. Ok (record { clauses = cs; records = replicate (length n.names) 0 })) (sym (map_more (clause_of n.names) n.needs k d lt))
 
 -- ---- conflicts
 
@@ -72,7 +54,7 @@ module _ (n : NotesModel) (k : ℕ) (d : ClashModel) (s : Sound n) (lt : k < len
   abbrev x : ClashModel
   x = get_or n.clashes k d
 
-  abbrev related : List ComponentRecord → Draft
+  abbrev related : List ℕ → Draft
   related rs = record { clauses = map (clause_of n.names) n.needs; records = rs }
 
   -- with one conflict more

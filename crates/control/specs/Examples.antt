@@ -2,7 +2,7 @@
 use Rattle.std.specs.Prelude.{◌≡◌, ℕ, List, [], ◌∷◌, Ok, Err, codes, Result}
 use Rattle.refusals.specs.declared.Refusal.TheVariants.{BadName, NameTwice}
 use Rattle.sheets.specs.Changes.{blank}
-use Rattle.sheets.specs.Examples.{set_of, need_of}
+use Rattle.sheets.specs.Examples.{need_of}
 use Rattle.sheets.specs.Support.{free}
 use Rattle.catalogue.specs.Drafts.{closed}
 use Rattle.catalogue.specs.Examples.{eight}
@@ -38,7 +38,7 @@ pub record Examples : Type 0 where
   -- an empty file is a ground without components
   pub empty_read : contents [] ≡ Ok no_contents
   -- a name that no stanza has drops out of its clause, and the clause stays
-  pub unknown_name : (held (contents (codes "Package: map\nDepends: font | map, font\nConflicts: font, map"))).sheet ≡ record { size = 1; present = 1; clauses = need_of 0 0b1 ∷ need_of 0 0 ∷ []; conflicts = set_of 0 ∷ [] }
+  pub unknown_name : (held (contents (codes "Package: map\nDepends: font | map, font\nConflicts: font, map"))).sheet ≡ record { size = 1; present = 1; clauses = need_of 0 0b1 ∷ need_of 0 0 ∷ []; conflicts = 0 ∷ [] }
   -- a name of one byte, at its place
   pub short_name : contents (codes "Package: m\n") ≡ Err (fault BadName layer.Name 9)
   -- a name used before is found before what follows it on its line

@@ -7,7 +7,6 @@ use Rattle.refusals.specs.declared.Refusal.TheVariants.{NoComponent}
 use Rattle.sheets.specs.Sheets.{SheetModel}
 use Rattle.sheets.specs.declared.clause.Clause.{Clause}
 use Rattle.catalogue.specs.Drafts.{Draft, closed}
-use Rattle.catalogue.specs.declared.records.ComponentRecord.{ComponentRecord}
 use Rattle.texts.specs.Spans.{look_up}
 use Rattle.texts.specs.declared.faults.Fault.{Fault}
 use Rattle.stanzas.specs.Files.{reading}
@@ -27,7 +26,7 @@ known names (n ∷ ns) = with_found (known names ns) (look_up 0 names n)
 
 -- a clause with the components that its names mean. It stays a clause where they mean none: then nothing meets it.
 abbrev pub clause_of : List (List ℕ) → NeedModel → Clause
-clause_of names n = record { owner = n.owner; members = record { bits = known names n.names } }
+clause_of names n = record { owner = n.owner; members = known names n.names }
 
 -- ---- conflicts
 
@@ -46,11 +45,11 @@ abbrev pub opposes : List (List ℕ) → List ClashModel → ℕ → ℕ → Boo
 opposes names cs p q = not (p == q) && against names cs p q
 
 -- the record of p: what it opposes
-abbrev pub record_of : List (List ℕ) → List ClashModel → ℕ → ComponentRecord
-record_of names cs p = record { clashes = record { bits = collect (opposes names cs p) (length names) } }
+abbrev pub record_of : List (List ℕ) → List ClashModel → ℕ → ℕ
+record_of names cs p = collect (opposes names cs p) (length names)
 
 -- one for each component
-abbrev pub records_of : List (List ℕ) → List ClashModel → List ComponentRecord
+abbrev pub records_of : List (List ℕ) → List ClashModel → List ℕ
 records_of names cs = map (record_of names cs) (range_with_len 0 (length names))
 
 -- ---- the whole file

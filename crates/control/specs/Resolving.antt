@@ -1,14 +1,9 @@
 -- The catalogue while it is filled from notes: components first, then the clauses, then the conflicts.
 use Rattle.std.specs.Prelude.{ℕ, [], map, length, replicate}
 use Rattle.catalogue.specs.Drafts.{Draft}
-use Rattle.catalogue.specs.Notes.{no_record}
 use Rattle.stanzas.specs.Notes.{NotesModel}
 use Rattle.control.specs.Grounds.{clause_of}
 
--- so many components, and no more
-abbrev pub unrelated : ℕ → Draft
-unrelated n = record { clauses = []; records = replicate n no_record }
-
 -- all the clauses, but no conflicts
 abbrev pub unopposed : NotesModel → Draft
-unopposed n = record { clauses = map (clause_of n.names) n.needs; records = replicate (length n.names) no_record }
+unopposed n = record { clauses = map (clause_of n.names) n.needs; records = replicate (length n.names) 0 }

@@ -4,12 +4,12 @@
 ghost use Rattle.std.specs.Prelude.{◌≡◌, ◌≤◌, map, length, IfOk};
 ghost use Rattle.sets.specs.Limit.{limit};
 ghost use Rattle.sheets.specs.Sheets.{model};
-ghost use Rattle.catalogue.specs.Drafts.{draft, empty_draft, closed};
+ghost use Rattle.catalogue.specs.Drafts.{empty_draft, unrelated, closed};
 ghost use Rattle.texts.specs.Spans.{stretch};
 ghost use Rattle.stanzas.specs.Sound.{Sound};
 ghost use Rattle.stanzas.specs.Views.{notes_of};
 ghost use Rattle.control.specs.Grounds.{known, draft_of};
-ghost use Rattle.control.specs.Resolving.{unrelated, unopposed};
+ghost use Rattle.control.specs.Resolving.{unopposed};
 
 use catalogue::{ClosedCatalogue, OpenCatalogue};
 use sets::ComponentSet;
@@ -19,7 +19,7 @@ use texts::{Span, find};
 
 /// The components that the names of a choice mean.
 fn members(text: &[u8], names: &[Span], choice: &[Span]) -> ComponentSet
-    ensures { result.bits ≡ known (map (stretch text.now) names.now) (map (stretch text.now) choice.now) }
+    ensures { result ≡ known (map (stretch text.now) names.now) (map (stretch text.now) choice.now) }
 {
     let mut members = ComponentSet::empty();
     for name in choice {
@@ -30,20 +30,10 @@ fn members(text: &[u8], names: &[Span], choice: &[Span]) -> ComponentSet
     members
 }
 
-/// A component for each name.
-fn add_components(catalogue: &mut OpenCatalogue, names: &[Span])
-    requires { (draft catalogue.old ≡ empty_draft) × (length names.now ≤ limit) }
-    ensures { draft catalogue.new ≡ unrelated (length names.now) }
-{
-    for _ in names {
-        catalogue.add_component().unwrap();
-    }
-}
-
 /// The clauses, in file order.
 fn add_needs(catalogue: &mut OpenCatalogue, text: &[u8], notes: &Notes)
-    requires { (Sound (notes_of text.now notes.now)) × (draft catalogue.old ≡ unrelated (length (notes_of text.now notes.now).names)) }
-    ensures { draft catalogue.new ≡ unopposed (notes_of text.now notes.now) }
+    requires { (Sound (notes_of text.now notes.now)) × (catalogue.old ≡ unrelated (length (notes_of text.now notes.now).names)) }
+    ensures { catalogue.new ≡ unopposed (notes_of text.now notes.now) }
 {
     for need in notes.needs() {
         let members = members(text, notes.names(), need.names.as_slice());
@@ -53,8 +43,8 @@ fn add_needs(catalogue: &mut OpenCatalogue, text: &[u8], notes: &Notes)
 
 /// The conflicts whose name means another component.
 fn add_clashes(catalogue: &mut OpenCatalogue, text: &[u8], notes: &Notes)
-    requires { (Sound (notes_of text.now notes.now)) × (draft catalogue.old ≡ unopposed (notes_of text.now notes.now)) }
-    ensures { draft catalogue.new ≡ draft_of (notes_of text.now notes.now) }
+    requires { (Sound (notes_of text.now notes.now)) × (catalogue.old ≡ unopposed (notes_of text.now notes.now)) }
+    ensures { catalogue.new ≡ draft_of (notes_of text.now notes.now) }
 {
     for clash in notes.clashes() {
         if let Some(other) = find(text, notes.names(), clash.name.of(text)) {
@@ -75,7 +65,7 @@ pub(crate) fn resolve(
     ensures { IfOk result (λ c. model c.sheet ≡ closed (draft_of (notes_of text.now notes.now))) }
 {
     let mut catalogue = OpenCatalogue::new(heap)?;
-    add_components(&mut catalogue, notes.names());
+    catalogue.add_components(notes.names().len()).unwrap();
     add_needs(&mut catalogue, text, notes);
     add_clashes(&mut catalogue, text, notes);
     Ok(catalogue.close())

@@ -30,14 +30,7 @@ fn kernel_size(heap: Global, text: Vec<u8>) -> Result<KernelSize, ReadError>
 
 fn run(rt: &HostRuntime) -> anyhow::Result<()> {
     match kernel_size(rt.alloc(), read_input(rt)?) {
-        Ok(size) => {
-            let KernelSize {
-                ground,
-                components,
-                clauses,
-            } = size;
-            println!(rt; "(kernel {ground} {components} {clauses})")?;
-        }
+        Ok(size) => println!(rt; "{size}")?,
         Err(ReadError::Faulty(fault)) => println!(rt; "(refused {fault})")?,
         Err(error) => return Err(error.into()),
     }

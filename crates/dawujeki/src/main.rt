@@ -2,9 +2,8 @@
 #![tactic(auto)]
 
 ghost use Rattle.std.specs.Prelude.{◌≡◌, IfOk, OnOk};
-ghost use Rattle.catalogue.specs.Drafts.{draft, empty_draft};
+ghost use Rattle.catalogue.specs.Drafts.{unrelated};
 ghost use Rattle.catalogue.specs.Examples.{eight};
-ghost use Rattle.dawujeki.specs.Exhibits.{pair, unrelated};
 
 use catalogue::OpenCatalogue;
 use levels::{KernelSize, Pile};
@@ -12,63 +11,47 @@ use refusals::{Failure, Refusal};
 use sets::ComponentSet;
 use std::alloc::Global;
 
+/// The exhibits: each is numbered like its component.
+#[derive(Clone, Copy)]
+enum Exhibit {
+    Map,
+    Timeline,
+    Font,
+    FontLite,
+    FilmLoop,
+    Player,
+    CodecA,
+    CodecB,
+}
+
+use Exhibit::{CodecA, CodecB, FilmLoop, Font, FontLite, Map, Player, Timeline};
+
+/// How many there are.
 const EXHIBITS: usize = 8;
-
-const MAP: usize = 0;
-
-const TIMELINE: usize = 1;
-
-const FONT: usize = 2;
-
-const FONT_LITE: usize = 3;
-
-const FILM_LOOP: usize = 4;
-
-const PLAYER: usize = 5;
-
-const CODEC_A: usize = 6;
-
-const CODEC_B: usize = 7;
-
-/// The set of the two.
-fn either(one: usize, other: usize) -> ComponentSet
-    ensures { result.bits ≡ pair one other }
-{
-    ComponentSet::empty().with(one).with(other)
-}
-
-/// The eight components.
-fn add_components(catalogue: &mut OpenCatalogue) -> Result<(), Refusal>
-    requires { draft catalogue.old ≡ empty_draft }
-    ensures { OnOk result (draft catalogue.new ≡ unrelated 8) }
-{
-    for _ in 0..EXHIBITS {
-        catalogue.add_component()?;
-    }
-    Ok(())
-}
 
 /// What each needs, and what it clashes with.
 fn relate(catalogue: &mut OpenCatalogue) -> Result<(), Refusal>
-    requires { draft catalogue.old ≡ unrelated 8 }
-    ensures { OnOk result (draft catalogue.new ≡ eight) }
+    requires { catalogue.old ≡ unrelated 8 }
+    ensures { OnOk result (catalogue.new ≡ eight) }
 {
-    catalogue.add_need(MAP, either(TIMELINE, TIMELINE))?;
-    catalogue.add_need(MAP, either(FONT, FONT_LITE))?;
-    catalogue.add_need(TIMELINE, either(MAP, MAP))?;
-    catalogue.add_need(FILM_LOOP, either(PLAYER, PLAYER))?;
-    catalogue.add_need(PLAYER, either(CODEC_A, CODEC_B))?;
-    catalogue.add_clash(FILM_LOOP, TIMELINE)?;
-    catalogue.add_clash(CODEC_A, CODEC_B)?;
+    let fonts = ComponentSet::from([Font as usize, FontLite as usize]);
+    let codecs = ComponentSet::from([CodecA as usize, CodecB as usize]);
+    catalogue.add_need(Map as usize, ComponentSet::from([Timeline as usize]))?;
+    catalogue.add_need(Map as usize, fonts)?;
+    catalogue.add_need(Timeline as usize, ComponentSet::from([Map as usize]))?;
+    catalogue.add_need(FilmLoop as usize, ComponentSet::from([Player as usize]))?;
+    catalogue.add_need(Player as usize, codecs)?;
+    catalogue.add_clash(FilmLoop as usize, Timeline as usize)?;
+    catalogue.add_clash(CodecA as usize, CodecB as usize)?;
     Ok(())
 }
 
 /// The eight exhibits.
 fn exhibits(heap: Global) -> Result<OpenCatalogue, Failure>
-    ensures { IfOk result (λ c. draft c ≡ eight) }
+    ensures { IfOk result (λ c. c ≡ eight) }
 {
     let mut catalogue = OpenCatalogue::new(heap)?;
-    add_components(&mut catalogue)?;
+    catalogue.add_components(EXHIBITS)?;
     relate(&mut catalogue)?;
     Ok(catalogue)
 }
@@ -81,15 +64,8 @@ fn kernel_size(heap: Global) -> Result<KernelSize, Failure>
     Ok(pile.kernel_size())
 }
 
-fn run(rt: &HostRuntime) -> anyhow::Result<()> {
-    let size = kernel_size(rt.alloc())?;
-    let ground = size.ground;
-    let components = size.components;
-    let clauses = size.clauses;
-    println!(rt; "(kernel {ground} {components} {clauses})")?;
-    Ok(())
-}
-
 fn main(rt: HostRuntime) -> anyhow::Result<()> {
-    run(&rt)
+    let size = kernel_size(rt.alloc())?;
+    rt.println(size)?;
+    Ok(())
 }

@@ -14,7 +14,7 @@ use levels::{Level, Pile, Reduction};
 use refusals::{Failure, Refusal};
 use sets::ComponentSet;
 use sheets::Sheet;
-use std::alloc::{AllocError, Global};
+use std::alloc::{AllocFailed, Global};
 use std::io;
 
 /// The smallest reduction there can be: it reduces nothing. It shows that the interface can be met, and by how little.
@@ -25,7 +25,7 @@ struct Unreduced<L: Level> {
 }
 
 impl<L: Level> Level for Unreduced<L> {
-    ghost pile = { λ x. raised (L.Level.pile x.below) unreduced_rules (unchanged (model x.sheet)) };
+    ghost pile = { λ x. raised (L.pile x.below) unreduced_rules (unchanged (model x.sheet)) };
 
     fn sheet(&self) -> &Sheet {
         &self.sheet
@@ -65,10 +65,10 @@ impl<L: Level> Reduction for Unreduced<L> {
 
     ghost gives = { λ b o w k. subst (Law b) (sym k) (record { formed = w; keeps = keeps_itself b w }) };
 
-    fn over(below: L, heap: Global) -> Result<Unreduced<L>, (L, AllocError)> {
-        match below.sheet().copy(heap) {
+    fn over(below: L, heap: Global) -> Result<Unreduced<L>, AllocFailed<L>> {
+        match below.sheet().clone() {
             Ok(sheet) => Ok(Unreduced { below, sheet }),
-            Err(error) => Err((below, error)),
+            Err(_) => Err(AllocFailed { value: below }),
         }
     }
 
@@ -91,24 +91,18 @@ impl<L: Level> Reduction for Unreduced<L> {
     }
 }
 
-fn pair(one: usize, other: usize) -> ComponentSet {
-    ComponentSet::empty().with(one).with(other)
-}
-
 /// 0 needs 1, 1 needs 0, and 1 clashes with 2.
 fn ring(heap: Global) -> Result<ClosedCatalogue, Failure> {
     let mut catalogue = OpenCatalogue::new(heap)?;
-    for _ in 0..3 {
-        catalogue.add_component()?;
-    }
-    catalogue.add_need(0, pair(1, 1))?;
-    catalogue.add_need(1, pair(0, 0))?;
+    catalogue.add_components(3)?;
+    catalogue.add_need(0, ComponentSet::from([1]))?;
+    catalogue.add_need(1, ComponentSet::from([0]))?;
     catalogue.add_clash(1, 2)?;
     Ok(catalogue.close())
 }
 
 /// The look-ups of any level in its own sheet.
-fn print_sheet<L: Level>(rt: &HostRuntime, level: &L) -> io::Result<()> {
+fn print_sheet<L: Level>(rt: &impl Print, level: &L) -> io::Result<()> {
     println!(rt; "size {} clauses {}", level.size(), level.clause_count())?;
     println!(rt; "present {:?}", level.present())?;
     println!(rt; "owner {:?} {:?}", level.owner(1), level.owner(2))?;
@@ -116,7 +110,7 @@ fn print_sheet<L: Level>(rt: &HostRuntime, level: &L) -> io::Result<()> {
 }
 
 /// The look-ups of any level between it and the ground.
-fn print_ties<L: Level>(rt: &HostRuntime, level: &L) -> io::Result<()> {
+fn print_ties<L: Level>(rt: &impl Print, level: &L) -> io::Result<()> {
     println!(rt;
         "conflicts {:?} {:?}",
         level.conflicts(2),
@@ -125,8 +119,8 @@ fn print_ties<L: Level>(rt: &HostRuntime, level: &L) -> io::Result<()> {
     println!(rt; "image {:?} {:?}", level.image(2), level.image(3))?;
     println!(rt;
         "lift {:?} {:?}",
-        level.lift(pair(0, 2)),
-        level.lift(pair(0, 3))
+        level.lift(ComponentSet::from([0, 2])),
+        level.lift(ComponentSet::from([0, 3]))
     )
 }
 
@@ -136,17 +130,12 @@ type Two = Unreduced<One>;
 
 /// Two reductions over a ground.
 fn raise(ground: Pile<ClosedCatalogue>, heap: Global) -> Result<Pile<Two>, Failure> {
-    let Ok(one) = Pile::<One>::raise(ground, heap) else {
-        return Err(Failure::OutOfMemory);
-    };
-    let Ok(two) = Pile::<Two>::raise(one, heap) else {
-        return Err(Failure::OutOfMemory);
-    };
-    Ok(two)
+    let one = Pile::<One>::raise(ground, heap)?;
+    Ok(Pile::<Two>::raise(one, heap)?)
 }
 
 /// A step and a sweep of the top, and what the pile comes to.
-fn print_calls(rt: &HostRuntime, pile: &mut Pile<Two>) -> io::Result<()> {
+fn print_calls(rt: &impl Print, pile: &mut Pile<Two>) -> io::Result<()> {
     println!(rt; "step {:?} sweep {:?}", pile.step(0, 0), pile.sweep())?;
     println!(rt; "below {}", pile.top().below().clause_count())?;
     let size = pile.kernel_size();
@@ -156,7 +145,7 @@ fn print_calls(rt: &HostRuntime, pile: &mut Pile<Two>) -> io::Result<()> {
     )
 }
 
-fn run(rt: &HostRuntime) -> anyhow::Result<()> {
+fn run(rt: &(impl Print + AllocGlobal)) -> anyhow::Result<()> {
     let ground = Pile::on(ring(rt.alloc())?);
     print_sheet(rt, ground.top())?;
     print_ties(rt, ground.top())?;

@@ -1,14 +1,14 @@
 -- Levels that keep faith, one over the other, and runs of calls.
 use Rattle.std.proofs.Common.{◌≡◌, ℕ, List, [], ◌∷◌, ◌++◌, Ok, Err, Result, sym, refl, ap, ◌∙◌, subst}
+use Rattle.std.proofs.lemmas.List.Sums.{fold-append}
 use Rattle.refusals.specs.declared.Refusal.{Refusal}
 use Rattle.sets.specs.Sets.{Has, Subset}
 use Rattle.sheets.specs.Sheets.{SheetModel, Formed}
-use Rattle.sheets.specs.Changes.{Goes}
 use Rattle.sheets.specs.Health.{Coinstallable}
 use Rattle.sheets.proofs.Forms.{present_below}
-use Rattle.levels.specs.Piles.{Own, Rules, PileModel, ground, raised, top, base, image, lift, own, image_set}
+use Rattle.levels.specs.Piles.{Own, Rules, PileModel, ground, raised, top, base, image, lift, image_set}
 use Rattle.levels.specs.Laws.{Keeps, Law, Sound, Reached, started, stepped, swept, settled}
-use Rattle.levels.specs.Runs.{Call, raise, step, sweep, read, after, after_step, after_sweep, run, Faithful, Throughout, MainLaw, Made}
+use Rattle.levels.specs.Runs.{Call, raise, step, sweep, read, after, run, Faithful, Throughout, MainLaw, Made}
 use Rattle.levels.proofs.Images.{image_from, image_again, image_same}
 
 -- ---- composition
@@ -40,84 +40,61 @@ keeps_over a b c f g f' g' w k l = record {
     again x s = image_again f f' a.size b.size x (λ i lt h. present_below b w (f i) (k.images i (s i h)))
 
     inside : (x : ℕ) → Subset x a.present → Subset (image_set f a.size x) b.present
-    inside x s j h = let r = image_from f a.size x j h in subst (λ n. Has b.present n) r.is (k.images r.at (s r.at r.inside))
+    inside x s j h = let r = image_from f a.size x j h in subst (Has b.present) r.is (k.images r.at (s r.at r.inside))
 
--- ---- piles whose every reduction keeps its law
+-- ---- piles over the ground s whose every reduction keeps its law
 
-pub data Sturdy : PileModel → Type 0 where
-  lone : (s : SheetModel) → Formed s → Sturdy (ground s)
-  more : (p : PileModel) (r : Rules) (o : Own) → Sturdy p → Sound r → Reached r (top p) o → Sturdy (raised p r o)
+pub data Sturdy (s : SheetModel) : PileModel → Type 0 where
+  lone : Sturdy s (ground s)
+  more : (p : PileModel) (r : Rules) (o : Own) → Sturdy s p → Sound r → Reached r (top p) o → Sturdy s (raised p r o)
 
-pub formed_top : (p : PileModel) → Sturdy p → Formed (top p)
-formed_top _ (lone s w) = w
-formed_top _ (more p r o h s m) = (s.lawful (top p) (formed_top p h) o m).formed
+pub sturdy_after : (s : SheetModel) (p : PileModel) (c : Call) → Sturdy s p → Sturdy s (after p c)
+sturdy_after s p (raise r d) h = more p r (r.start (top p)) h d started
+sturdy_after s _ (step u v) lone = lone
+sturdy_after s _ (step u v) (more p r o h d m) = more p r (settled o (r.moved (top p) o u v)) h d (stepped u v m)
+sturdy_after s _ sweep lone = lone
+sturdy_after s _ sweep (more p r o h d m) = more p r (r.swept (top p) o).left h d (swept m)
+sturdy_after s p read h = h
 
-pub formed_base : (p : PileModel) → Sturdy p → Formed (base p)
-formed_base _ (lone s w) = w
-formed_base _ (more p r o h s m) = formed_base p h
+pub sturdy_run : (s : SheetModel) (p : PileModel) (cs : List Call) → Sturdy s p → Sturdy s (run p cs)
+sturdy_run s p [] h = h
+sturdy_run s p (c ∷ cs) h = sturdy_run s (after p c) cs (sturdy_after s p c h)
 
-pub faithful : (p : PileModel) → Sturdy p → Keeps (base p) (top p) (image p) (lift p)
-faithful _ (lone s w) = keeps_itself s w
-faithful _ (more p r o h s m) = keeps_over (base p) (top p) o.sheet (image p) (lift p) o.image o.lift (formed_top p h) (faithful p h) (s.lawful (top p) (formed_top p h) o m).keeps
+pub base_is : (s : SheetModel) (p : PileModel) → Sturdy s p → base p ≡ s
+base_is s _ lone = refl
+base_is s _ (more p r o h d m) = base_is s p h
 
-pub throughout : (s : SheetModel) (p : PileModel) → base p ≡ s → Sturdy p → Throughout (Faithful s) p
-throughout s _ e (lone t w) = record { grounded = e; keeps = subst (λ g. Keeps g t (λ i. i) (λ x. x)) e (keeps_itself t w) }
-throughout s _ e (more p r o h d m) = (
-  throughout s p e h,
-  record { grounded = e; keeps = subst (λ g. Keeps g o.sheet (image (raised p r o)) (lift (raised p r o))) e (faithful (raised p r o) (more p r o h d m)) },
-)
+module _ (s : SheetModel) (w : Formed s) where
+  pub formed_top : (p : PileModel) → Sturdy s p → Formed (top p)
+  formed_top _ lone = w
+  formed_top _ (more p r o h d m) = (d.lawful (top p) (formed_top p h) o m).formed
+
+  pub faithful : (p : PileModel) → Sturdy s p → Keeps s (top p) (image p) (lift p)
+  faithful _ lone = keeps_itself s w
+  faithful _ (more p r o h d m) = keeps_over s (top p) o.sheet (image p) (lift p) o.image o.lift (formed_top p h) (faithful p h) (d.lawful (top p) (formed_top p h) o m).keeps
+
+  pub throughout : (p : PileModel) → Sturdy s p → Throughout (Faithful s) p
+  throughout _ lone = record { grounded = refl; keeps = keeps_itself s w }
+  throughout _ (more p r o h d m) = (throughout p h, record { grounded = base_is s p h; keeps = faithful (raised p r o) (more p r o h d m) })
 
 -- ---- runs
 
-pub sturdy_after : (p : PileModel) (c : Call) → Sturdy p → Sturdy (after p c)
-sturdy_after p (raise r s) h = more p r (r.start (top p)) h s started
-sturdy_after _ (step u v) (lone s w) = lone s w
-sturdy_after _ (step u v) (more p r o h s m) = more p r (settled o (r.moved (top p) o u v)) h s (stepped u v m)
-sturdy_after _ sweep (lone s w) = lone s w
-sturdy_after _ sweep (more p r o h s m) = more p r (r.swept (top p) o).left h s (swept m)
-sturdy_after p read h = h
-
-pub base_after : (p : PileModel) (c : Call) → base (after p c) ≡ base p
-base_after p (raise r s) = refl
-base_after (ground s) (step u v) = refl
-base_after (raised p r o) (step u v) = refl
-base_after (ground s) sweep = refl
-base_after (raised p r o) sweep = refl
-base_after p read = refl
-
-pub sturdy_run : (p : PileModel) (cs : List Call) → Sturdy p → Sturdy (run p cs)
-sturdy_run p [] h = h
-sturdy_run p (c ∷ cs) h = sturdy_run (after p c) cs (sturdy_after p c h)
-
-pub base_run : (p : PileModel) (cs : List Call) → base (run p cs) ≡ base p
-base_run p [] = refl
-base_run p (c ∷ cs) = base_run (after p c) cs ∙ base_after p c
-
 pub main_law : MainLaw
-main_law s w cs = throughout s (run (ground s) cs) (base_run (ground s) cs) (sturdy_run (ground s) cs (lone s w))
+main_law s w cs = throughout s w (run (ground s) cs) (sturdy_run s (ground s) cs lone)
 
--- ---- one call more
-
-run_more : (p : PileModel) (cs : List Call) (c : Call) → run p (cs ++ c ∷ []) ≡ after (run p cs) c
-run_more p [] c = refl
-run_more p (d ∷ cs) c = run_more (after p d) cs c
-
-pub made_alone : (s : SheetModel) → Formed s → Made (ground s)
-made_alone s w = record { from = s; formed = w; calls = []; is = refl }
-
-pub made_after : (p : PileModel) (c : Call) → Made p → Made (after p c)
-made_after p c m = record {
+-- one call more
+pub made_after : (p q : PileModel) (c : Call) → Made p → q ≡ after p c → Made q
+made_after p q c m is = record {
   from = m.from;
   formed = m.formed;
   calls = m.calls ++ c ∷ [];
-  is = ap (λ q. after q c) m.is ∙ sym (run_more (ground m.from) m.calls c);
+  is = is ∙ ap (λ q. after q c) m.is ∙ sym (fold-append after (ground m.from) m.calls (c ∷ []));
 }
 
 pub made_keeps : (p : PileModel) → Made p → Throughout (Faithful (base p)) p
 made_keeps p m =
-    let here : base p ≡ m.from = ap base m.is ∙ base_run (ground m.from) m.calls in
-    subst (λ q. Throughout (Faithful (base q)) q) (sym m.is)
-    (subst (λ s. Throughout (Faithful s) (run (ground m.from) m.calls)) (sym (base_run (ground m.from) m.calls)) (main_law m.from m.formed m.calls))
+    let h = subst (Sturdy m.from) (sym m.is) (sturdy_run m.from (ground m.from) m.calls lone) in
+    subst (λ s. Throughout (Faithful s) p) (sym (base_is m.from p h)) (throughout m.from m.formed p h)
 
 -- ---- from an invariant of its own a reduction has its law
 
@@ -138,19 +115,3 @@ sound_from r keeps begins starts steps sweeps gives = record { starts = begins; 
         go (Ok n) e k = steps b o n u v w k e
         go (Err x) e k = k
     kept b w (swept {o} m) = sweeps b o w (kept b w m)
-
--- ---- what a call of a reduction makes of the pile that it tops: p before, q after, over b
-
-goes_settled : (q : Result Own Refusal) (a : Result (Unit {0}) Refusal) (old new : Own) → Goes q tt a old new → new ≡ settled old q
-goes_settled (Ok n) a old new h = h.1
-goes_settled (Err e) a old new h = h.1
-
-pub raise_is : (q b c : PileModel) (r : Rules) (o : Own) → q ≡ raised c r (own q) → c ≡ b → own q ≡ o → q ≡ raised b r o
-raise_is q b c r o is e f = is ∙ ap (λ x. raised x r (own q)) e ∙ ap (raised b r) f
-
-module _ (p q b : PileModel) (r : Rules) (before : p ≡ raised b r (own p)) (behind : q ≡ raised b r (own q)) where
-  pub step_is : (u v : ℕ) (a : Result (Unit {0}) Refusal) → Goes (r.moved (top b) (own p) u v) tt a (own p) (own q) → q ≡ after_step p u v
-  step_is u v a h = behind ∙ ap (raised b r) (goes_settled (r.moved (top b) (own p) u v) a (own p) (own q) h) ∙ ap (λ x. after_step x u v) (sym before)
-
-  pub sweep_is : own q ≡ (r.swept (top b) (own p)).left → q ≡ after_sweep p
-  sweep_is h = behind ∙ ap (raised b r) h ∙ ap after_sweep (sym before)

@@ -1,3 +1,4 @@
 pub mod Piles
 pub mod Laws
 pub mod Runs
+pub mod Kernels

@@ -1,7 +1,6 @@
 -- Levels over a ground: what a pile of them means.
 use Rattle.std.specs.Prelude.{ℕ, zero, suc, ◌^◌, cond, Ok, Err, Result, bit_or}
 use Rattle.sets.specs.Sets.{has, within}
-use Rattle.sets.specs.declared.ComponentSet.{ComponentSet}
 use Rattle.refusals.specs.declared.Refusal.{Refusal}
 use Rattle.refusals.specs.declared.Refusal.TheVariants.{NoComponent}
 use Rattle.sheets.specs.Sheets.{SheetModel}
@@ -67,5 +66,5 @@ abbrev pub imaged : PileModel → ℕ → Result ℕ Refusal
 imaged p i = cond (has (base p).present i) (Ok (image p i)) (Err NoComponent)
 
 -- what the look-up of a lift answers
-abbrev pub lifted : PileModel → ComponentSet → Result ComponentSet Refusal
-lifted p x = cond (within x.bits (top p).present) (Ok (record { bits = lift p x.bits })) (Err NoComponent)
+abbrev pub lifted : PileModel → ℕ → Result ℕ Refusal
+lifted p x = cond (within x (top p).present) (Ok (lift p x)) (Err NoComponent)

@@ -1,5 +1,5 @@
 -- The main law, over whole runs: whatever is done to a pile, its ground stays, and at each of its levels the same things can stand together.
-use Rattle.std.specs.Prelude.{◌≡◌, ℕ, List, [], ◌∷◌}
+use Rattle.std.specs.Prelude.{◌≡◌, ℕ, List, fold}
 use Rattle.sheets.specs.Sheets.{SheetModel, Formed}
 use Rattle.levels.specs.Piles.{Rules, PileModel, ground, raised, top, base, image, lift}
 use Rattle.levels.specs.Laws.{Keeps, Sound, settled}
@@ -29,8 +29,7 @@ after p read = p
 
 -- the pile after a run of calls, the first of them first
 abbrev pub run : PileModel → List Call → PileModel
-run p [] = p
-run p (c ∷ cs) = run (after p c) cs
+run = fold after
 
 -- the level keeps faith with the ground s
 pub record Faithful (s : SheetModel) (p : PileModel) : Type 0 where

@@ -25,7 +25,7 @@ pub trait Level {
 
     /// The lift of a set, whether or not it is present here.
     fn lift_of(&self, set: ComponentSet) -> ComponentSet
-        ensures { result.bits ≡ lift (pile self.now) set.bits };
+        ensures { result ≡ lift (pile self.now) set };
 
     /// How many numbers its components have: all are below this.
     fn size(&self) -> usize
@@ -36,7 +36,7 @@ pub trait Level {
 
     /// The components that are present.
     fn present(&self) -> ComponentSet
-        ensures { result.bits ≡ (top (pile self.now)).present }
+        ensures { result ≡ (top (pile self.now)).present }
     {
         self.sheet().present()
     }
@@ -92,7 +92,7 @@ pub trait Level {
 
 /// A level on which the others rest: its sheet is the ground's, and images and lifts leave numbers and sets as they are.
 pub trait Ground: Level {
-    ghost alone: { (x : Self) → Self.Level.pile x ≡ ground (top (Self.Level.pile x)) };
+    ghost alone: { (x : Self) → Self.pile x ≡ ground (top (Self.pile x)) };
 
-    ghost formed: { (x : Self) → Formed (top (Self.Level.pile x)) };
+    ghost formed: { (x : Self) → Formed (top (Self.pile x)) };
 }

@@ -1,4 +1,4 @@
-ghost use Rattle.std.specs.Prelude.{◌≡◌, length, IfOk, MatchResult};
+ghost use Rattle.std.specs.Prelude.{◌≡◌, length, MatchResult};
 ghost use Rattle.sets.specs.Sets.{count};
 ghost use Rattle.sheets.specs.Changes.{Goes};
 ghost use Rattle.levels.specs.Piles.{ground, raised, top, base, own};
@@ -8,21 +8,31 @@ ghost use Rattle.levels.specs.Runs.{MainLaw, Made, Faithful, Throughout, after_s
 use crate::level::{Ground, Level};
 use crate::reduction::Reduction;
 use refusals::Refusal;
-use std::alloc::{AllocError, Global};
+use std::alloc::{AllocFailed, Global};
+use std::fmt;
+use std::marker::Model;
 
 /// A ground with reductions piled on it, of which only the top one takes steps.
 ///
-/// `Made` says of its meaning that a run of raisings, steps and sweeps made it from a ground: a ground alone has it, and every call keeps it.
+/// A contract sees it as its top level. Each is one that a run of raisings, steps and sweeps made from a ground.
 #[derive(Drop)]
 pub struct Pile<L: Level> {
     top: L,
 }
 
+impl<L: Level> Model for Pile<L> {
+    ghost Value = { L };
+
+    ghost view = { λ p. p.top };
+
+    ghost invariant = { λ p. Made (L.pile p.top) };
+}
+
 impl<G: Ground> Pile<G> {
     /// The pile of a ground alone. What holds of every pile that is made from one is the main law.
+    #[tactic(auto, using(crate::proofs::Keeping::main_law))]
     pub fn on(ground: G) -> Pile<G>
-        ensures top { result.top ≡ ground }
-        ensures made { Made (G.Level.pile result.top) }
+        ensures top { result ≡ ground }
         ensures law { MainLaw }
     {
         Pile { top: ground }
@@ -32,17 +42,19 @@ impl<G: Ground> Pile<G> {
 impl<L: Level> Pile<L> {
     /// The top level, for reading.
     pub fn top(&self) -> &L
-        ensures { result.now ≡ self.now.top }
+        ensures top { result.now ≡ self.now }
+        ensures made { Made (L.pile self.now) }
     {
         &self.top
     }
 
     /// The size of the ground, and how many components and clauses are left at the top.
+    #[tactic(auto, using(crate::proofs::Keeping::made_keeps))]
     pub fn kernel_size(&self) -> KernelSize
-        ensures ground { result.ground ≡ (base (L.Level.pile self.now.top)).size }
-        ensures components { result.components ≡ count (top (L.Level.pile self.now.top)).present }
-        ensures clauses { result.clauses ≡ length (top (L.Level.pile self.now.top)).clauses }
-        ensures faithful { Made (L.Level.pile self.now.top) → Throughout (Faithful (base (L.Level.pile self.now.top))) (L.Level.pile self.now.top) }
+        ensures ground { result.ground ≡ (base (L.pile self.now)).size }
+        ensures components { result.components ≡ count (top (L.pile self.now)).present }
+        ensures clauses { result.clauses ≡ length (top (L.pile self.now)).clauses }
+        ensures faithful { Throughout (Faithful (base (L.pile self.now))) (L.pile self.now) }
     {
         KernelSize {
             ground: self.top.ground().size(),
@@ -53,11 +65,28 @@ impl<L: Level> Pile<L> {
 }
 
 /// What a pile comes to.
-#[derive(Clone, Copy, PartialEq, Eq, Debug)]
+#[derive(Clone, Copy, PartialEq, Eq, Hash, Debug, Default)]
 pub struct KernelSize {
     pub ground: usize,
     pub components: usize,
     pub clauses: usize,
+}
+
+/// The line `(kernel G C N)`.
+impl fmt::Display for KernelSize {
+    ghost use Rattle.std.specs.Prelude.{Some};
+    ghost use Rattle.levels.specs.Kernels.{kernel_line};
+
+    ghost output = { λ k. Some (kernel_line k) };
+
+    fn fmt<W: fmt::Write>(&self, f: &mut fmt::Formatter<W>) -> fmt::Result {
+        let Self {
+            ground,
+            components,
+            clauses,
+        } = self;
+        write!(f, "(kernel {ground} {components} {clauses})")
+    }
 }
 
 impl<R: Reduction> Pile<R> {
@@ -65,34 +94,33 @@ impl<R: Reduction> Pile<R> {
     pub fn raise(
         below: Pile<R::Below>,
         heap: Global,
-    ) -> Result<Pile<R>, (Pile<R::Below>, AllocError)>
+    ) -> Result<Pile<R>, AllocFailed<Pile<R::Below>>>
         ensures raises { MatchResult result
-            (λ x. R.Level.pile x.top ≡ raised (R.Below.Level.pile below.top) R.Reduction.rules (R.Reduction.rules.start (top (R.Below.Level.pile below.top))))
-            (λ e. e.0 ≡ below) }
-        ensures kept { IfOk result (λ x. Made (R.Below.Level.pile below.top) → Made (R.Level.pile x.top)) }
-        ensures sound { Sound R.Reduction.rules }
+            (λ x. R.pile x ≡ raised (R.Below.pile below) R.rules (R.rules.start (top (R.Below.pile below))))
+            (λ e. e.value ≡ below) }
+        ensures sound { Sound R.rules }
     {
         let Pile { top } = below;
         match R::over(top, heap) {
             Ok(top) => Ok(Pile { top }),
-            Err((top, error)) => Err((Pile { top }, error)),
+            Err(AllocFailed { value: top }) => Err(AllocFailed {
+                value: Pile { top },
+            }),
         }
     }
 
     /// The top reduction takes the step (u, v), or declines it and nothing is altered.
     pub fn step(&mut self, u: usize, v: usize) -> Result<(), Refusal>
-        ensures moves { Goes (R.Reduction.rules.moved (top (R.Below.Level.pile (R.Reduction.under self.old.top))) (own (R.Level.pile self.old.top)) u v) tt result (own (R.Level.pile self.old.top)) (own (R.Level.pile self.new.top)) }
-        ensures after { R.Level.pile self.new.top ≡ after_step (R.Level.pile self.old.top) u v }
-        ensures kept { Made (R.Level.pile self.old.top) → Made (R.Level.pile self.new.top) }
+        ensures moves { Goes (R.rules.moved (top (R.Below.pile (R.under self.old))) (own (R.pile self.old)) u v) tt result (own (R.pile self.old)) (own (R.pile self.new)) }
+        ensures after { R.pile self.new ≡ after_step (R.pile self.old) u v }
     {
         self.top.step(u, v)
     }
 
     /// The top reduction takes all the steps of its sweep.
     pub fn sweep(&mut self) -> Result<(), Refusal>
-        ensures answer { result ≡ (R.Reduction.rules.swept (top (R.Below.Level.pile (R.Reduction.under self.old.top))) (own (R.Level.pile self.old.top))).answer }
-        ensures after { R.Level.pile self.new.top ≡ after_sweep (R.Level.pile self.old.top) }
-        ensures kept { Made (R.Level.pile self.old.top) → Made (R.Level.pile self.new.top) }
+        ensures answer { result ≡ (R.rules.swept (top (R.Below.pile (R.under self.old))) (own (R.pile self.old))).answer }
+        ensures after { R.pile self.new ≡ after_sweep (R.pile self.old) }
     {
         self.top.sweep()
     }

@@ -6,7 +6,7 @@ ghost use Rattle.levels.specs.Laws.{Law};
 
 use crate::level::Level;
 use refusals::Refusal;
-use std::alloc::{AllocError, Global};
+use std::alloc::{AllocFailed, Global};
 
 /// A level made from the one below it, which it takes in and lends only for reading, and altered by steps and a sweep.
 ///
@@ -25,8 +25,8 @@ pub trait Reduction: Level + Sized {
     ghost keeps: { SheetModel → Own → Type 0 };
 
     /// The reduction over a level; where memory runs out, the level is given back.
-    fn over(below: Self::Below, heap: Global) -> Result<Self, (Self::Below, AllocError)>
-        ensures { MatchResult result (λ x. (under x ≡ below) × (own (Self.Level.pile x) ≡ rules.start (top (Self.Below.Level.pile below)))) (λ e. e.0 ≡ below) };
+    fn over(below: Self::Below, heap: Global) -> Result<Self, AllocFailed<Self::Below>>
+        ensures { MatchResult result (λ x. (under x ≡ below) × (own (Self.pile x) ≡ rules.start (top (Self.Below.pile below)))) (λ e. e.value ≡ below) };
 
     /// The level below, for reading.
     fn below(&self) -> &Self::Below
@@ -38,17 +38,17 @@ pub trait Reduction: Level + Sized {
 
     /// Takes the step (u, v), or declines it and alters nothing.
     fn step(&mut self, u: usize, v: usize) -> Result<(), Refusal>
-        ensures moves { Goes (rules.moved (top (Self.Below.Level.pile (under self.old))) (own (Self.Level.pile self.old)) u v) tt result (own (Self.Level.pile self.old)) (own (Self.Level.pile self.new)) }
+        ensures moves { Goes (rules.moved (top (Self.Below.pile (under self.old))) (own (Self.pile self.old)) u v) tt result (own (Self.pile self.old)) (own (Self.pile self.new)) }
         ensures below { under self.new ≡ under self.old };
 
     /// Takes all the steps of its sweep.
     fn sweep(&mut self) -> Result<(), Refusal>
-        ensures answer { result ≡ (rules.swept (top (Self.Below.Level.pile (under self.old))) (own (Self.Level.pile self.old))).answer }
-        ensures left { own (Self.Level.pile self.new) ≡ (rules.swept (top (Self.Below.Level.pile (under self.old))) (own (Self.Level.pile self.old))).left }
+        ensures answer { result ≡ (rules.swept (top (Self.Below.pile (under self.old))) (own (Self.pile self.old))).answer }
+        ensures left { own (Self.pile self.new) ≡ (rules.swept (top (Self.Below.pile (under self.old))) (own (Self.pile self.old))).left }
         ensures below { under self.new ≡ under self.old };
 
     /// It stands on the level that it took in.
-    ghost raises: { (x : Self) → Self.Level.pile x ≡ raised (Self.Below.Level.pile (under x)) rules (own (Self.Level.pile x)) };
+    ghost raises: { (x : Self) → Self.pile x ≡ raised (Self.Below.pile (under x)) rules (own (Self.pile x)) };
 
     /// When made it has the sheet of the level below.
     ghost begins: { (b : SheetModel) → Formed b → (rules.start b).sheet ≡ b };

@@ -9,15 +9,11 @@ use sheets::Sheet;
 use std::alloc::Global;
 use std::io;
 
-fn pair(one: usize, other: usize) -> ComponentSet {
-    ComponentSet::empty().with(one).with(other)
-}
-
 /// Sets: members in order, the operators, and numbers at the limit.
-fn print_sets(rt: &HostRuntime) -> io::Result<()> {
+fn print_sets(rt: &impl Print) -> io::Result<()> {
     let last = ComponentSet::LIMIT - 1;
-    let a = pair(3, 0).with(last);
-    let b = pair(3, 5);
+    let a = ComponentSet::from([3, 0, last]);
+    let b = ComponentSet::from([3, 5]);
     println!(rt; "sets {a:?} {b:?} {:?} {:?} {:?}", a | b, a & b, a - b)?;
     println!(rt; "limit {:?} {:?}", b.with(last + 1), b.without(last + 1))?;
     println!(rt;
@@ -37,11 +33,9 @@ fn print_sets(rt: &HostRuntime) -> io::Result<()> {
 /// 0 needs 1 and 1 needs 0; with a third component, 1 also clashes with 2.
 fn ring(heap: Global, components: usize) -> Result<ClosedCatalogue, Failure> {
     let mut catalogue = OpenCatalogue::new(heap)?;
-    for _ in 0..components {
-        catalogue.add_component()?;
-    }
-    catalogue.add_need(0, pair(1, 1))?;
-    catalogue.add_need(1, pair(0, 0))?;
+    catalogue.add_components(components)?;
+    catalogue.add_need(0, ComponentSet::from([1]))?;
+    catalogue.add_need(1, ComponentSet::from([0]))?;
     if components > 2 {
         catalogue.add_clash(1, 2)?;
     }
@@ -49,28 +43,32 @@ fn ring(heap: Global, components: usize) -> Result<ClosedCatalogue, Failure> {
 }
 
 /// Health and support of the two rings.
-fn print_health(rt: &HostRuntime, ground: &Sheet) -> io::Result<()> {
+fn print_health(rt: &impl Print, ground: &Sheet) -> io::Result<()> {
     println!(rt;
         "clear {:?} free {:?}",
         ground.clear_components(),
         ground.free_set()
     )?;
-    println!(rt; "supported by 1 {:?}", ground.support(pair(1, 1)))?;
-    let both = ground.is_healthy(pair(0, 1));
-    let half = ground.is_healthy(pair(0, 0));
+    println!(rt;
+        "supported by 1 {:?}",
+        ground.support(ComponentSet::from([1]))
+    )?;
+    let both = ground.is_healthy(ComponentSet::from([0, 1]));
+    let half = ground.is_healthy(ComponentSet::from([0]));
     let none = ground.is_healthy(ComponentSet::empty());
-    let outside = ground.is_healthy(pair(0, 1).with(9));
+    let outside = ground.is_healthy(ComponentSet::from([0, 1, 9]));
     println!(rt; "healthy {both} {half} {none} {outside}")
 }
 
 /// What a call of a catalogue answers at its limits.
-fn print_refusals(rt: &HostRuntime) -> anyhow::Result<()> {
+fn print_refusals(rt: &(impl Print + AllocGlobal)) -> anyhow::Result<()> {
     let mut catalogue = OpenCatalogue::new(rt.alloc())?;
-    for _ in 0..ComponentSet::LIMIT {
-        catalogue.add_component()?;
-    }
+    catalogue.add_components(ComponentSet::LIMIT)?;
     println!(rt; "{:?}", catalogue.add_component())?;
-    println!(rt; "{:?}", catalogue.add_need(ComponentSet::LIMIT, pair(0, 1)))?;
+    println!(rt;
+        "{:?}",
+        catalogue.add_need(ComponentSet::LIMIT, ComponentSet::from([0, 1]))
+    )?;
     println!(rt;
         "{:?} {:?}",
         catalogue.add_clash(0, ComponentSet::LIMIT),
@@ -82,10 +80,13 @@ fn print_refusals(rt: &HostRuntime) -> anyhow::Result<()> {
         catalogue.add_clash(7, 8)
     )?;
     for _ in 0..Sheet::MAX_CLAUSES {
-        catalogue.add_need(1, pair(2, 3))?;
+        catalogue.add_need(1, ComponentSet::from([2, 3]))?;
     }
-    println!(rt; "{:?}", catalogue.add_need(1, pair(2, 3)))?;
-    println!(rt; "{:?}", catalogue.add_need(ComponentSet::LIMIT, pair(2, 3)))?;
+    println!(rt; "{:?}", catalogue.add_need(1, ComponentSet::from([2, 3])))?;
+    println!(rt;
+        "{:?}",
+        catalogue.add_need(ComponentSet::LIMIT, ComponentSet::from([2, 3]))
+    )?;
     let closed = catalogue.close();
     println!(rt;
         "{:?} {:?} {:?}",
@@ -102,7 +103,7 @@ fn print_refusals(rt: &HostRuntime) -> anyhow::Result<()> {
     Ok(())
 }
 
-fn run(rt: &HostRuntime) -> anyhow::Result<()> {
+fn run(rt: &(impl Print + AllocGlobal)) -> anyhow::Result<()> {
     print_sets(rt)?;
     print_health(rt, ring(rt.alloc(), 2)?.sheet())?;
     print_health(rt, ring(rt.alloc(), 3)?.sheet())?;

@@ -4,7 +4,7 @@ ghost use Rattle.sheets.specs.Changes.{Goes};
 ghost use Rattle.sheets.specs.Sheets.{model, conflicts_of};
 ghost use Rattle.catalogue.specs.Notes.{Filled};
 ghost use Rattle.catalogue.specs.Examples.{Examples};
-ghost use Rattle.catalogue.specs.Drafts.{draft, empty_draft, component_made, need_made, clash_made, clash, closed};
+ghost use Rattle.catalogue.specs.Drafts.{empty_draft, component_made, components_made, need_made, clash_made, clash, closed};
 
 use super::OpenCatalogue;
 use crate::closed::ClosedCatalogue;
@@ -17,7 +17,7 @@ use std::alloc::{AllocError, Global};
 impl OpenCatalogue {
     /// A catalogue without components.
     pub fn new(heap: Global) -> Result<OpenCatalogue, AllocError>
-        ensures { IfOk result (λ c. draft c ≡ empty_draft) }
+        ensures { IfOk result (λ c. c ≡ empty_draft) }
     {
         let sheet = Sheet::new(heap)?;
         let records = Vec::with_capacity(heap, ComponentSet::LIMIT)?;
@@ -26,16 +26,29 @@ impl OpenCatalogue {
 
     /// One more component, and its number; too-many past the limit.
     pub fn add_component(&mut self) -> Result<usize, Refusal>
-        ensures { Goes (component_made (draft self.old)) (length (draft self.old).records) result (draft self.old) (draft self.new) }
+        ensures { Goes (component_made self.old) (length self.old.records) result self.old self.new }
     {
         let component = self.sheet.add_component()?;
         self.records.push_reserved(ComponentRecord::new());
         Ok(component)
     }
 
+    /// So many components more; too-many where they would pass the limit, and then none is added.
+    pub fn add_components(&mut self, count: usize) -> Result<(), Refusal>
+        ensures { Goes (components_made self.old count) tt result self.old self.new }
+    {
+        if count > ComponentSet::LIMIT - self.records.len() {
+            return Err(Refusal::TooMany);
+        }
+        for _ in 0..count {
+            self.add_component().unwrap();
+        }
+        Ok(())
+    }
+
     /// A component needs one of the members; no-component where a number was not made yet, then table-full.
     pub fn add_need(&mut self, owner: usize, members: ComponentSet) -> Result<(), Refusal>
-        ensures { Goes (need_made (draft self.old) owner members) tt result (draft self.old) (draft self.new) }
+        ensures { Goes (need_made self.old owner members) tt result self.old self.new }
     {
         self.sheet.add_clause(Clause { owner, members })
     }
@@ -43,8 +56,9 @@ impl OpenCatalogue {
     /// A component clashes with another, which is noted at its own record alone.
     /// No-component where a number was not made yet, then self-clash for a component with itself; repeating it is obeyed.
     pub fn add_clash(&mut self, component: usize, other: usize) -> Result<(), Refusal>
-        ensures { Goes (clash_made (draft self.old) component other) tt result (draft self.old) (draft self.new) }
+        ensures { Goes (clash_made self.old component other) tt result self.old self.new }
     {
+        // Tested here and not by `get_mut`: both numbers come before the clash with oneself.
         if component >= self.records.len() || other >= self.records.len() {
             return Err(Refusal::NoComponent);
         }
@@ -59,8 +73,8 @@ impl OpenCatalogue {
     /// Closes the catalogue: two components conflict where one of them has noted the other.
     /// This is never declined and asks for no memory.
     pub fn close(self) -> ClosedCatalogue
-        ensures sheet { model result.sheet ≡ closed (draft self) }
-        ensures both { (p q : ℕ) → has (conflicts_of (model result.sheet) p) q ≡ clash (draft self) p q }
+        ensures sheet { model result.sheet ≡ closed self }
+        ensures both { (p q : ℕ) → has (conflicts_of (model result.sheet) p) q ≡ clash self p q }
         ensures examples { Examples }
     {
         let OpenCatalogue { mut sheet, records } = self;
@@ -76,6 +90,6 @@ fn complete(sheet: &mut Sheet, records: &[ComponentRecord])
     ensures both { (p q : ℕ) → has (conflicts_of (model sheet.new) p) q ≡ clash (record { clauses = (model sheet.old).clauses; records = records.now }) p q }
 {
     for (component, record) in records.iter().enumerate() {
-        let _ = sheet.add_conflicts(component, record.clashes());
+        sheet.add_conflicts(component, record.clashes()).unwrap();
     }
 }

@@ -1,8 +1,7 @@
 use Rattle.std.proofs.Common.{◌≡◌}
-use Rattle.catalogue.specs.Drafts.{draft}
 use Rattle.stanzas.specs.Views.{notes_of}
 use Rattle.control.proofs.Filling.{needs_up_to}
 use Rattle.control.proofs.resolve.add_needs.Given as goal
 
 abbrev pub invariant-loop-need : goal.invariant-loop-need
-invariant-loop-need l = draft l.catalogue ≡ needs_up_to (notes_of l.text l.notes) l.need-index
+invariant-loop-need l = l.catalogue ≡ needs_up_to (notes_of l.text l.notes) l.need-index

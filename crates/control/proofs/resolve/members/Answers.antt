@@ -10,9 +10,9 @@ use Rattle.control.proofs.resolve.members.Goals.{in-Some, in_default}
 pub loop-name-preserved : goal.loop-name-preserved
 loop-name-preserved c =
     elim c.match-find.branch [
-      | in-Some w ↦ ap (λ x. x.bits) w.members-is ∙ w.with-members.ensures.value
+      | in-Some w ↦ w.members-is ∙ w.with-members.ensures.value
           ∙ member_found c.args.text.now c.args.names.now c.args.choice.now c.loop-name.name-index _ c.loop-name-test.true _ c.loop-name.invariant _ c.of.ensures w.in-Some.component w.in-Some.ensures
-      | in_default w ↦ ap (λ x. x.bits) w.members-is
+      | in_default w ↦ w.members-is
           ∙ member_unfound c.args.text.now c.args.names.now c.args.choice.now c.loop-name.name-index _ c.loop-name-test.true _ c.loop-name.invariant _ c.of.ensures w.in_default.ensures
     ]
 

@@ -4,4 +4,4 @@ use Rattle.control.specs.Grounds.{known}
 use Rattle.control.proofs.resolve.members.Given as goal
 
 abbrev pub invariant-loop-name : goal.invariant-loop-name
-invariant-loop-name l = l.members.bits ≡ known (map (stretch l.text) l.names) (map (stretch l.text) (take l.name-index l.choice))
+invariant-loop-name l = l.members ≡ known (map (stretch l.text) l.names) (map (stretch l.text) (take l.name-index l.choice))

@@ -1,19 +1,18 @@
 use Rattle.std.proofs.Common.{◌≡◌, ◌<◌, length, vec_items, ap, ◌∙◌, arith}
-use Rattle.std.specs.Vec.{with_item}
 use Rattle.std.proofs.lemmas.List.{get_or_read}
 use Rattle.sets.specs.Sets.{with_member}
 use Rattle.sheets.specs.Sheets.{model}
-use Rattle.catalogue.specs.Notes.{noted, no_record}
-use Rattle.catalogue.proofs.Filling.{filled, filled_clash, sealed}
+use Rattle.catalogue.specs.Notes.{noted}
+use Rattle.catalogue.proofs.Filling.{filled_clash}
 use Rattle.catalogue.proofs.opened.OpenCatalogue.add_clash.Goals as goal
 
 pub invariant_of-self : goal.invariant_of-self
 invariant_of-self c =
-    let o = c.args.self.now in
+    let o = c.self.inside in
     let p = c.args.component in
     let q = c.args.other in
     let lp : p < length (vec_items o.records) = omega (arith, c.len.ensures, o.records.ok.0) in
     let lq : q < length (vec_items o.records) = omega (arith, c.len-else-component-len.ensures, o.records.ok.0) in
-    let is : c.note.new.self.clashes.bits ≡ with_member (noted (vec_items o.records) p) q =
-    c.note.ensures ∙ ap (λ x. with_member x.clashes.bits q) (get_or_read (vec_items o.records) p c.index_mut-record.result.now lp c.index_mut-record.ensures.value no_record) in
-    sealed o.sheet (with_item o.records p c.note.new.self) (filled_clash (model o.sheet) (vec_items o.records) p q c.note.new.self lp lq c.if-component-other.false o.sheet.small is (filled o)) o.room
+    let is : c.note.new.self ≡ with_member (noted (vec_items o.records) p) q =
+    c.note.ensures ∙ ap (λ x. with_member x q) (get_or_read (vec_items o.records) p c.index_mut-record.result.now lp c.index_mut-record.ensures.value 0) in
+    (filled_clash (model o.sheet) (vec_items o.records) p q c.note.new.self lp lq c.if-component-other.false o.sheet.small is c.self.invariant.0, c.self.invariant.1)

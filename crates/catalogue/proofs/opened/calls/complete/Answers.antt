@@ -1,23 +1,38 @@
-use Rattle.std.proofs.Common.{◌≡◌, ℕ, length, ap, subst, arith}
+use Rattle.std.proofs.Common.{◌≡◌, ℕ, length, is_ok, ap, ◌∙◌, subst, arith}
+use Rattle.std.proofs.lemmas.List.{get_or_read}
 use Rattle.sheets.specs.Sheets.{model}
 use Rattle.sheets.specs.Changes.{Goes, conflicts_added}
 use Rattle.sheets.proofs.Forms.{formed}
 use Rattle.catalogue.specs.Notes.{noted}
-use Rattle.catalogue.proofs.Closing.{Closing, closing_none, closing_more, closed_is, closed_both}
+use Rattle.catalogue.proofs.Closing.{Closing, closing_none, closing_more, obeyed, closed_is, closed_both}
 use Rattle.catalogue.proofs.opened.calls.complete.Goals as goal
+use Rattle.catalogue.proofs.opened.calls.complete.Goals.{After-add_conflicts}
 
 pub loop-component-init : goal.loop-component-init
 loop-component-init c = closing_none (model c.args.sheet.now) c.args.records.now c.requires (formed c.args.sheet.now)
 
-pub loop-component-preserved : goal.loop-component-preserved
-loop-component-preserved c =
-    let e = c.args.sheet.now in
+-- the addition at hand, in terms of what the record names
+goes : (c : After-add_conflicts)
+    → Goes (conflicts_added (model c.loop-component.sheet) c.loop-component.component (noted c.args.records.now c.loop-component.component)) tt c.add_conflicts.result (model c.loop-component.sheet) (model c.add_conflicts.new.self)
+goes c =
     let rs = c.args.records.now in
     let k = c.loop-component.component in
     let s = c.loop-component.sheet in
-    let is : c.clashes.result.bits ≡ noted rs k = ap (λ x. x.bits) c.clashes.ensures in
-    closing_more (model e) rs c.requires (formed e) (model s) k c.loop-component.invariant (formed s) c.loop-component-test.true c.add_conflicts.result (model c.add_conflicts.new.self)
-    (subst (λ (qs : ℕ). Goes (conflicts_added (model s) k qs) tt c.add_conflicts.result (model s) (model c.add_conflicts.new.self)) is c.add_conflicts.ensures.goes)
+    let is : c.clashes.result ≡ noted rs k = c.clashes.ensures ∙ get_or_read rs k c.index-records-component.result c.loop-component-test.true c.index-records-component.is 0 in
+    subst (λ (qs : ℕ). Goes (conflicts_added (model s) k qs) tt c.add_conflicts.result (model s) (model c.add_conflicts.new.self)) is c.add_conflicts.ensures.goes
+
+pub unwrap-requires : goal.unwrap-requires
+unwrap-requires c =
+    let e = c.args.sheet.now in
+    let s = c.loop-component.sheet in
+    ap is_ok (obeyed (model e) c.args.records.now c.requires (formed e) (model s) c.loop-component.component c.loop-component.invariant (formed s) c.loop-component-test.true c.add_conflicts.result (model c.add_conflicts.new.self) (goes c)).0
+
+pub loop-component-preserved : goal.loop-component-preserved
+loop-component-preserved c =
+    let e = c.args.sheet.now in
+    let s = c.loop-component.sheet in
+    closing_more (model e) c.args.records.now c.requires (formed e) (model s) c.loop-component.component c.loop-component.invariant (formed s) c.loop-component-test.true c.add_conflicts.result (model c.add_conflicts.new.self)
+    (goes (goal.at.loop-component-preserved c).After-add_conflicts)
 
 pub returns : goal.returns
 returns c =

@@ -57,4 +57,5 @@ unmet_end cs s i le = at_drop_all (λ ds. unmet ds s) cs i le
 pub or_regroup : (a b c : ℕ) → bit_or a (bit_or b c) ≡ bit_or (bit_or a b) c
 or_regroup a b c = sym (or_assoc a b c)
 
+-- for the invariant of that loop
 pub ruleset collecting = (unmet_step, unmet_end, or_regroup, or_zero_r, with_is, owner_small)

@@ -42,6 +42,9 @@ module _ (m : SheetModel) (w : Formed m) where
 pub absent_past : (s : Sheet) (i : ℕ) → vec_len s.conflicts ≤ i → has s.present i ≡ false
 absent_past s i le = has_above (vec_len s.conflicts) s.present i s.bounded le
 
+-- for the loop that collects the clear components
+pub ruleset clearing = (collect_with, collect_without, with_is, has_collect, absent_past)
+
 -- the owner of a clause can be a member of a set
 pub owner_small : (s : Sheet) (k : ℕ) → k < length (vec_items s.clauses) → (clause_at (vec_items s.clauses) k).owner < limit
 owner_small s k lt = present_limit (model s) (formed s) (clause_at (vec_items s.clauses) k).owner (s.owned k lt)
@@ -77,6 +80,7 @@ with_small s k small lt =
     let one_more : 2 ^ (k + 1) ≡ 2 ^ k + 2 ^ k = ap (λ j. 2 ^ j) (add-one k) ∙ omega (arith, pow-suc 2 k) in
     subst (λ t. t < 2 ^ (k + 1)) (with_is s k lt) (or_lt (k + 1) s (2 ^ k) (omega (arith, one_more)) (omega (arith, one_more)))
 
+-- for the invariants of a sheet with one more component
 pub ruleset growing = (row_grown, within_with, has_more, with_small, with_is)
 
 -- ---- more conflicts
@@ -169,5 +173,3 @@ pub refilled_opposed : (t : Vec ℕ Global) (ws : List ℕ) (p qs : ℕ) → len
 refilled_opposed t ws p qs same each =
     let filled = fill_by_all (opposed_row (vec_items t) p qs) ws (length (vec_items t)) 0 same each in
     sym (with_items_is t ws (same ∙ sym t.ok.0) ∙ filled)
-
-pub ruleset clearing = (collect_with, collect_without, with_is, has_collect, absent_past)

@@ -13,7 +13,7 @@ mod health;
 /// Components, what each needs and what it conflicts with.
 ///
 /// Room for every component and clause that a sheet may have is taken when it is made, so no later change asks for memory.
-#[derive(Debug, Drop)]
+#[derive(PartialEq, Eq, Debug, Drop)]
 pub struct Sheet {
     present: ComponentSet,
     clauses: Vec<Clause>,

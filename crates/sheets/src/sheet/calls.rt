@@ -1,5 +1,5 @@
 //! What a sheet tells.
-ghost use Rattle.std.specs.Prelude.{◌≡◌, ◌<◌, length};
+ghost use Rattle.std.specs.Prelude.{◌≡◌, length};
 ghost use Rattle.sheets.specs.Sheets.{model, found, opponents, Formed};
 
 use super::Sheet;

@@ -1,8 +1,8 @@
 //! How a sheet is built.
-ghost use Rattle.std.specs.Prelude.{◌≡◌, ℕ, ◌+◌, ◌<◌, ◌&&◌, ◌||◌, IfOk, OnOk, ◌==◌};
+ghost use Rattle.std.specs.Prelude.{◌≡◌, ℕ, ◌&&◌, ◌||◌, IfOk, OnOk, ◌==◌};
 ghost use Rattle.sets.specs.Sets.{has};
 ghost use Rattle.sheets.specs.Sheets.{model, conflicts_of};
-ghost use Rattle.sheets.specs.Changes.{Goes, blank, component_added, clause_added, conflicts_added, opposed_set, opposed};
+ghost use Rattle.sheets.specs.Changes.{Goes, blank, component_added, clause_added, conflicts_added};
 
 use super::Sheet;
 use crate::clause::Clause;

@@ -1,15 +1,12 @@
 //! Which components of a sheet can stand together.
-ghost use Rattle.std.specs.Prelude.{◌≡◌, ℕ, ◌<◌, ◌≤◌, true, ◌&&◌, length, Decides};
-ghost use Rattle.sets.specs.Limit.{limit};
-ghost use Rattle.sets.specs.Sets.{has, Has, Subset, Apart, collect};
-ghost use Rattle.sheets.specs.Clauses.{clause_at, row};
+ghost use Rattle.std.specs.Prelude.{◌≡◌, ℕ, Decides};
+ghost use Rattle.sets.specs.Sets.{has, Subset};
 ghost use Rattle.sheets.specs.Sheets.{model};
 ghost use Rattle.sheets.specs.Health.{Healthy, Fed, is_clear, clear};
 ghost use Rattle.sheets.specs.Support.{Supported, unmet, narrowed, support, free};
 ghost use Rattle.sheets.specs.Examples.{Examples};
 
 use super::Sheet;
-use crate::clause::Clause;
 use sets::ComponentSet;
 
 impl Sheet {
@@ -18,10 +15,7 @@ impl Sheet {
     pub fn is_healthy(&self, set: ComponentSet) -> bool
         ensures { Decides result (Healthy (model self.now) set) }
     {
-        if !set.is_subset(self.present) {
-            return false;
-        }
-        if set.intersects(self.unmet(set)) {
+        if !set.is_subset(self.present) || set.intersects(self.unmet(set)) {
             return false;
         }
         for (i, conflicts) in self.conflicts.iter().enumerate() {

@@ -56,10 +56,9 @@ fn is_in_name(byte: u8) -> bool
 pub fn is_name(bytes: &[u8]) -> bool
     ensures { result ≡ good bytes.now }
 {
-    if bytes.len() < 2 || bytes.len() > 64 || !is_start(bytes[0]) {
-        return false;
-    }
-    bytes.iter().all(|byte| is_in_name(*byte))
+    (2..=64).contains(&bytes.len())
+        && is_start(bytes[0])
+        && bytes.iter().all(|byte| is_in_name(*byte))
 }
 
 /// Where the run of bytes at `at` that pass the test ends.

@@ -86,7 +86,12 @@ fn trial(rt: &(impl Print + AllocGlobal), number: usize, text: Vec<u8>) -> io::R
 }
 
 /// Reads texts that begin with the head and end with one of the tails.
-fn table(rt: &(impl Print + AllocGlobal), first: usize, head: &[u8], tails: &[&[u8]]) -> io::Result<()> {
+fn table(
+    rt: &(impl Print + AllocGlobal),
+    first: usize,
+    head: &[u8],
+    tails: &[&[u8]],
+) -> io::Result<()> {
     for (number, tail) in (first..).zip(tails) {
         let mut text = head.to_vec(rt.alloc())?;
         text.extend_from_slice(tail)?;

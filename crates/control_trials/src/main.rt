@@ -28,7 +28,7 @@ fn print_name(rt: &impl Print, name: &[u8]) -> io::Result<()> {
 fn print_names(rt: &impl Print, file: &ControlFile) -> io::Result<()> {
     let size = file.size();
     print!(rt; "{} names", file.present().len())?;
-    for component in size.saturating_sub(SHOWN)..size {
+    for component in file.present().iter().skip(size.saturating_sub(SHOWN)) {
         if let Ok(name) = file.name(component) {
             if file.find(name) == Some(component) {
                 print_name(rt, name)?;
@@ -44,7 +44,7 @@ fn print_names(rt: &impl Print, file: &ControlFile) -> io::Result<()> {
     }
 }
 
-/// Each clause as owner and members.
+/// Each clause as owner and members, by its place, since the look-ups that are tried here take one.
 fn print_needs(rt: &impl Print, file: &ControlFile) -> io::Result<()> {
     let count = file.clause_count();
     print!(rt; "; {count} needs")?;

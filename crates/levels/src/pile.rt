@@ -69,7 +69,7 @@ pub struct KernelSize {
     pub clauses: usize,
 }
 
-/// The line `(kernel G C N)`.
+/// The line `(kernel G C N)`. By hand: a derived `Display` states no output.
 impl fmt::Display for KernelSize {
     ghost use Rattle.std.specs.Prelude.{Some};
     ghost use Rattle.levels.specs.Kernels.{kernel_line};

@@ -36,7 +36,8 @@ pub trait Reduction: Level + Sized {
     fn into_below(self) -> Self::Below
         ensures { result ≡ under self };
 
-    /// Takes the step (u, v), or declines it and alters nothing.
+    /// Takes the step (u, v), or declines it and alters nothing. Two numbers and no struct of them: what each is, and
+    /// whether the second counts, is for each reduction to say.
     fn step(&mut self, u: usize, v: usize) -> Result<(), Refusal>
         ensures moves { Goes (rules.moved (top (Self.Below.pile (under self.old))) (own (Self.pile self.old)) u v) tt result (own (Self.pile self.old)) (own (Self.pile self.new)) }
         ensures below { under self.new ≡ under self.old };

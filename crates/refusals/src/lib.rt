@@ -32,7 +32,7 @@ pub enum Refusal {
 }
 
 impl Refusal {
-    /// Its number in the rule book.
+    /// Its number in the rule book. A method: `u8::from` would not say that it is that number.
     pub fn number(self) -> u8
         ensures { result ≡ number_of self }
     {
@@ -64,6 +64,7 @@ impl Refusal {
     }
 }
 
+// By hand: a derived `Display` states no output.
 impl fmt::Display for Refusal {
     ghost output = { λ x. Some (word_of x) };
 
@@ -84,6 +85,7 @@ pub enum Failure<R = Refusal> {
     OutOfMemory,
 }
 
+// By hand, all three: a derived `From` does not say which failure `?` makes.
 impl From<Refusal> for Failure {
     ghost from_gives = { λ x r. r ≡ Refused x };
 

@@ -19,7 +19,7 @@ pub(crate) enum Lexeme {
     Bar(usize),
 }
 
-/// What stands after a name in a list of names.
+/// What stands after a name in a list of names. The end is one of the three, and no absence of the others.
 #[derive(Clone, Copy, PartialEq, Eq, Hash, Debug)]
 pub(crate) enum Separator {
     Bar,
@@ -27,12 +27,15 @@ pub(crate) enum Separator {
     End,
 }
 
-/// A place in a value: the text up to the value's end, and the place.
+/// A place in a value: the text up to the value's end, and the place. A slice of what is left would not tell the place in
+/// the file, which faults do.
 #[derive(Clone, Copy, Debug)]
 pub(crate) struct Cursor<'a> {
     pub(crate) text: &'a [u8],
     pub(crate) at: usize,
 }
+
+// Two faults that differ in their parts alone keep a name each: that of the rule.
 
 /// A name breaks the rule, or is missing.
 fn no_name(place: usize) -> Fault

@@ -25,7 +25,8 @@ pub enum Heading {
     Malformed,
 }
 
-/// Which fields a stanza has had after its `Package`, and whether a continuation may come next.
+/// Which fields a stanza has had after its `Package`, and whether a continuation may come next. Flags, since each can hold
+/// with each other.
 #[derive(Clone, Copy, PartialEq, Eq, Hash, Default, Debug)]
 pub struct Stanza {
     pub(crate) depends: bool,
@@ -95,7 +96,7 @@ impl Heading {
     }
 }
 
-/// A line: the text up to its end, and where it begins.
+/// A line: the text up to its end, and where it begins, since faults tell places in the text.
 #[derive(Clone, Copy, Debug)]
 pub(crate) struct Line<'a> {
     pub(crate) text: &'a [u8],

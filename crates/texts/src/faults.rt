@@ -28,6 +28,8 @@ impl Layer {
     }
 }
 
+// By hand, and once more like `Refusal`'s: a derived `Display` states no output, and one for all that has a word would
+// overlap with every other.
 impl fmt::Display for Layer {
     ghost output = { λ x. Some (layer_word x) };
 
@@ -57,6 +59,7 @@ impl Fault {
     }
 }
 
+// By hand: a derived `Display` states no output.
 impl fmt::Display for Fault {
     ghost output = { λ x. Some (fault_line x) };
 
@@ -77,6 +80,7 @@ impl Error for Fault {}
 /// Why a file was not read: a fault in it, or want of memory.
 pub type ReadError = Failure<Fault>;
 
+// By hand: a derived `From` does not say which failure `?` makes.
 impl From<Fault> for ReadError {
     ghost from_gives = { λ x r. r ≡ Refused x };
 

@@ -30,7 +30,8 @@ fn print_sets(rt: &impl Print) -> io::Result<()> {
     )
 }
 
-/// 0 needs 1 and 1 needs 0; with a third component, 1 also clashes with 2.
+/// 0 needs 1 and 1 needs 0; with a third component, 1 also clashes with 2. `level_trials` has the larger one too: a library
+/// for these few lines would be no plainer.
 fn ring(heap: Global, components: usize) -> Result<ClosedCatalogue, Failure> {
     let mut catalogue = OpenCatalogue::new(heap)?;
     catalogue.add_components(components)?;

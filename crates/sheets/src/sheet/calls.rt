@@ -66,6 +66,7 @@ impl Sheet {
         if !self.present.contains(component) {
             return Err(Refusal::NoComponent);
         }
+        // Presence proves that the place is there: `get` would test that once more.
         Ok(self.conflicts[component])
     }
 }

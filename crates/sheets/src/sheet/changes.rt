@@ -79,6 +79,7 @@ impl Sheet {
     }
 }
 
+// By hand: a derived `clone` would not take the room that the type promises.
 impl Clone for Sheet {
     ghost is_clone = { λ s t. model t ≡ model s };
 

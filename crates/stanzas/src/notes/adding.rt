@@ -49,6 +49,7 @@ impl<'a> Notes<'a> {
     pub(crate) fn add(&mut self, relation: Relation, names: Vec<Span>) -> Result<(), ReadError>
         ensures { Leaves result (added relation (notes_of self.old) (map (mention self.old.text.now) names.items)) self.old self.new }
     {
+        // The file says which, when it is read: a step passed as a closure would have to be chosen all the same.
         match relation {
             Relation::Depends => self.add_need(names),
             Relation::Conflicts => self.add_clashes(names.as_slice()),

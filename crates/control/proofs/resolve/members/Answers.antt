@@ -1,9 +1,5 @@
-use Rattle.std.proofs.Common.{List, map, ap, ◌∙◌}
-use Rattle.std.proofs.lemmas.List.{take_all}
-use Rattle.texts.specs.Spans.{stretch}
-use Rattle.texts.specs.declared.spans.Span.{Span}
+use Rattle.std.proofs.Common.{◌∙◌}
 use Rattle.stanzas.specs.Views.{notes_of}
-use Rattle.control.specs.Grounds.{known}
 use Rattle.control.proofs.Calls.{member_found, member_unfound}
 use Rattle.control.proofs.resolve.members.Goals as goal
 use Rattle.control.proofs.resolve.members.Goals.{in-Some, in_default}
@@ -16,8 +12,3 @@ loop-name-preserved c =
           ∙ member_found n.text.now (notes_of n).names c.args.choice.now c.loop-name.name-index _ c.loop-name-test.true _ c.loop-name.invariant w.in-Some.component w.in-Some.ensures
       | in_default w ↦ w.members-is ∙ member_unfound n.text.now (notes_of n).names c.args.choice.now c.loop-name.name-index _ c.loop-name-test.true _ c.loop-name.invariant w.in_default.ensures
     ]
-
-pub returns : goal.returns
-returns c =
-    let n = c.args.notes.now in
-    c.loop-name.invariant ∙ ap (λ (xs : List Span). known (notes_of n).names (map (stretch n.text.now) xs)) (take_all c.loop-name.name-index c.args.choice.now c.loop-name-test.false)

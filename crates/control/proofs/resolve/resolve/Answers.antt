@@ -1,10 +1,10 @@
 use Rattle.std.proofs.Common.{◌≡◌, ℕ, ◌+◌, ◌≤◌, true, List, map, length, get_or, replicate, is_ok, vec_items, ap, ◌∙◌, arith}
 use Rattle.std.proofs.lemmas.List.{length-map, take_all}
-use Rattle.catalogue.specs.Drafts.{need_made, clash_made, closed}
+use Rattle.catalogue.specs.Drafts.{need_made, clash_made}
 use Rattle.catalogue.proofs.Calls.{obeyed}
-use Rattle.stanzas.specs.Notes.{NeedModel, ClashModel}
-use Rattle.stanzas.specs.Views.{need_of, clash_of, notes_of}
-use Rattle.control.specs.Grounds.{clause_of, records_of}
+use Rattle.stanzas.specs.Notes.{NeedModel}
+use Rattle.stanzas.specs.Views.{need_of, notes_of}
+use Rattle.control.specs.Grounds.{clause_of}
 use Rattle.control.proofs.Calls.{need_call, unknown_call, own_call, clash_call}
 use Rattle.control.proofs.Conflicts.{none_opposed}
 use Rattle.control.proofs.Filling.{needs_up_to, clashes_up_to}
@@ -69,11 +69,3 @@ loop-clash-preserved c =
           ∙ c.loop-clash.invariant
           ∙ unknown_call notes c.requires k _ _ c.clashes-clash-items.ensures c.loop-clash-test.true _ c.meant.ensures w.in_default.is
     ]
-
-pub returns : goal.returns
-returns c =
-    let n = notes_of c.args.notes.now in
-    let all : length n.clashes ≤ c.loop-clash.clash-index = omega (arith, length-map (vec_items c.args.notes.now.clashes) (clash_of c.args.notes.now.text.now), ap length c.clashes-clash-items.ensures) in
-    c.close.ensures.sheet
-    ∙ ap closed (c.loop-clash.invariant
-    ∙ ap (λ (cs : List ClashModel). record { clauses = map (clause_of n.names) n.needs; records = records_of n.names cs }) (take_all c.loop-clash.clash-index n.clashes all))

@@ -4,9 +4,6 @@ use Rattle.sets.specs.Sets.{with_members}
 use Rattle.sets.proofs.Loops.{with_next, made_of}
 use Rattle.sets.proofs.ComponentSetFromArrayUsize.from.Goals as goal
 
-pub loop-component-init : goal.loop-component-init
-loop-component-init g c = ap (λ s. with_members s c.args.components) c.empty-set.ensures.value
-
 pub loop-component-preserved : goal.loop-component-preserved
 loop-component-preserved g c =
     ap (λ s. with_members s (drop (c.loop-component.component-index + 1) c.args.components)) c.with-set.ensures.value

@@ -1,13 +1,9 @@
-use Rattle.std.proofs.Common.{ℕ, List, sym, ap, ◌∙◌, subst}
+use Rattle.std.proofs.Common.{ℕ, List, ap, ◌∙◌}
 use Rattle.sheets.specs.Sheets.{model}
 use Rattle.catalogue.specs.Drafts.{Draft, clash, closed}
-use Rattle.catalogue.specs.Notes.{Filled}
 use Rattle.catalogue.proofs.Examples.{examples}
 use Rattle.catalogue.proofs.Filling.{}
 use Rattle.catalogue.proofs.opened.OpenCatalogue.close.Goals as goal
-
-pub complete-requires : goal.complete-requires
-complete-requires c = subst (λ (rs : List ℕ). Filled (model c.self.inside.sheet) rs) (sym c.as_slice.ensures.value) c.self.invariant.0
 
 pub returns : goal.returns
 returns c =

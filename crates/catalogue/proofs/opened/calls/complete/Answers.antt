@@ -4,12 +4,9 @@ use Rattle.sheets.specs.Sheets.{model}
 use Rattle.sheets.specs.Changes.{Goes, conflicts_added}
 use Rattle.sheets.proofs.Forms.{formed}
 use Rattle.catalogue.specs.Notes.{noted}
-use Rattle.catalogue.proofs.Closing.{Closing, closing_none, closing_more, obeyed, closed_is, closed_both}
+use Rattle.catalogue.proofs.Closing.{Closing, obeyed, closed_is, closed_both}
 use Rattle.catalogue.proofs.opened.calls.complete.Goals as goal
 use Rattle.catalogue.proofs.opened.calls.complete.Goals.{After-add_conflicts}
-
-pub loop-component-init : goal.loop-component-init
-loop-component-init c = closing_none (model c.args.sheet.now) c.args.records.now c.requires (formed c.args.sheet.now)
 
 -- the addition at hand, in terms of what the record names
 goes : (c : After-add_conflicts)
@@ -26,13 +23,6 @@ unwrap-requires c =
     let e = c.args.sheet.now in
     let s = c.loop-component.sheet in
     ap is_ok (obeyed (model e) c.args.records.now c.requires (formed e) (model s) c.loop-component.component c.loop-component.invariant (formed s) c.loop-component-test.true c.add_conflicts.result (model c.add_conflicts.new.self) (goes c)).0
-
-pub loop-component-preserved : goal.loop-component-preserved
-loop-component-preserved c =
-    let e = c.args.sheet.now in
-    let s = c.loop-component.sheet in
-    closing_more (model e) c.args.records.now c.requires (formed e) (model s) c.loop-component.component c.loop-component.invariant (formed s) c.loop-component-test.true c.add_conflicts.result (model c.add_conflicts.new.self)
-    (goes (goal.at.loop-component-preserved c).After-add_conflicts)
 
 pub returns : goal.returns
 returns c =

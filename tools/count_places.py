@@ -1,5 +1,5 @@
 #!/usr/bin/env python3
-"""Lists the places at which docs/DESIGN-PASS.md looks: count_places.py [ROOT] [-v] (-v prints each line)."""
+"""Lists places that today's Rattle may write better (docs/DESIGN-PASS.md): count_places.py [ROOT] [-v] (-v prints each)."""
 import collections
 import glob
 import os

@@ -14,12 +14,12 @@ use Rattle.sheets.specs.Changes.{Goes, with_conflicts, opposed, conflicts_added}
 use Rattle.sheets.specs.Sheets.{SheetModel, Formed}
 use Rattle.sheets.proofs.Forms.{Opposes, before, forward, backward, opposed_from, opposed_has, present_below, present_limit}
 use Rattle.catalogue.specs.Drafts.{Draft, clash, closed_row, closed}
-use Rattle.catalogue.specs.Notes.{noted, Filled}
+use Rattle.catalogue.specs.Notes.{Filled}
 
 -- one of i and j has noted the other, and its record is among the first k
 pub data Noted (rs : List ℕ) (k i j : ℕ) : Type 0 where
-  ahead : i < k → Has (noted rs i) j → Noted rs k i j
-  behind : j < k → Has (noted rs j) i → Noted rs k i j
+  ahead : i < k → Has (row rs i) j → Noted rs k i j
+  behind : j < k → Has (row rs j) i → Noted rs k i j
 
 -- the sheet e once the first k records are done
 pub record Closing (e m : SheetModel) (rs : List ℕ) (k : ℕ) : Type 0 where
@@ -29,18 +29,18 @@ pub record Closing (e m : SheetModel) (rs : List ℕ) (k : ℕ) : Type 0 where
 
 -- ---- what the records name
 
-noted_below : (rs : List ℕ) (p q : ℕ) → Has (noted rs p) q → p < length rs
+noted_below : (rs : List ℕ) (p q : ℕ) → Has (row rs p) q → p < length rs
 noted_below rs p q h = go (cases_lt p (length rs))
   where
     go : (p < length rs) ⊎ (length rs ≤ p) → p < length rs
     go (inl lt) = lt
     go (inr le) =
-        let none : noted rs p ≡ 0 = ap (λ (r : ℕ). r) (get_or_past rs p 0 le) in
-        absurd (both_ways (has (noted rs p) q) (ap (λ s. has s q) none ∙ has_empty q) h)
+        let none : row rs p ≡ 0 = ap (λ (r : ℕ). r) (get_or_past rs p 0 le) in
+        absurd (both_ways (has (row rs p) q) (ap (λ s. has s q) none ∙ has_empty q) h)
 
 module _ (e : SheetModel) (rs : List ℕ) (f : Filled e rs) (w : Formed e) where
-  named_below : (p q : ℕ) → Has (noted rs p) q → q < length rs
-  named_below p q h = omega (arith, f.counted, present_below e w q ((decides_sub (noted rs p) e.present).0 (f.known p) q h))
+  named_below : (p q : ℕ) → Has (row rs p) q → q < length rs
+  named_below p q h = omega (arith, f.counted, present_below e w q ((decides_sub (row rs p) e.present).0 (f.known p) q h))
 
   pub both_below : (k i j : ℕ) → Noted rs k i j → (i < length rs) × (j < length rs)
   both_below k i j (ahead lt h) = (noted_below rs i j h, named_below i j h)
@@ -73,41 +73,41 @@ module _ (e : SheetModel) (rs : List ℕ) (f : Filled e rs) (w : Formed e) where
         ap (λ s. has s k) (present_is ∙ f.whole) ∙ has_below_all e.size k
         ∙ and_from (ltb k e.size) (ltb k limit) (lt-ltb k e.size (omega (arith, f.counted))) (lt-ltb k limit (omega (arith, f.counted, w.small)))
 
-    named : within (noted rs k) m.present ≡ true
-    named = subst (λ s. within (noted rs k) s ≡ true) (sym present_is) (f.known k)
+    named : within (row rs k) m.present ≡ true
+    named = subst (λ s. within (row rs k) s ≡ true) (sym present_is) (f.known k)
 
     -- the addition is obeyed
-    pub obeyed : (r : Result (Unit {0}) Refusal) (n : SheetModel) → Goes (conflicts_added m k (noted rs k)) tt r m n → (r ≡ Ok tt) × (n ≡ with_conflicts m (opposed m.conflicts k (noted rs k)))
-    obeyed r n g = rw (and_from (has m.present k) (within (noted rs k) m.present) here named, f.foreign k) at g
+    pub obeyed : (r : Result (Unit {0}) Refusal) (n : SheetModel) → Goes (conflicts_added m k (row rs k)) tt r m n → (r ≡ Ok tt) × (n ≡ with_conflicts m (opposed m.conflicts k (row rs k)))
+    obeyed r n g = rw (and_from (has m.present k) (within (row rs k) m.present) here named, f.foreign k) at g
 
-    pub closing_more : (r : Result (Unit {0}) Refusal) (n : SheetModel) → Goes (conflicts_added m k (noted rs k)) tt r m n → Closing e n rs (k + 1)
+    pub closing_more : (r : Result (Unit {0}) Refusal) (n : SheetModel) → Goes (conflicts_added m k (row rs k)) tt r m n → Closing e n rs (k + 1)
     closing_more r n g = subst (λ x. Closing e x rs (k + 1)) (sym (obeyed r n g).1) (record { same = ap (λ x. with_conflicts x (opposed table k qs)) c.same; from = from; all = all })
       where
         table : List ℕ
         table = m.conflicts
 
         qs : ℕ
-        qs = noted rs k
+        qs = row rs k
 
         more : (i j : ℕ) → Noted rs k i j → Noted rs (k + 1) i j
         more i j (ahead lt h) = ahead (omega arith) h
         more i j (behind lt h) = behind (omega arith) h
 
-        turned : (i j : ℕ) → Opposes m.conflicts k (noted rs k) i j → Noted rs (k + 1) i j
+        turned : (i j : ℕ) → Opposes m.conflicts k (row rs k) i j → Noted rs (k + 1) i j
         turned i j (before h) = more i j (c.from i j h)
-        turned i j (forward e h) = ahead (omega (arith, e)) (ap (λ p. has (noted rs p) j) e ∙ h)
-        turned i j (backward e h) = behind (omega (arith, e)) (ap (λ p. has (noted rs p) i) e ∙ h)
+        turned i j (forward e h) = ahead (omega (arith, e)) (ap (λ p. has (row rs p) j) e ∙ h)
+        turned i j (backward e h) = behind (omega (arith, e)) (ap (λ p. has (row rs p) i) e ∙ h)
 
-        from : (i j : ℕ) → Has (row (opposed m.conflicts k (noted rs k)) i) j → Noted rs (k + 1) i j
-        from i j h = turned i j (opposed_from m.conflicts k (noted rs k) (present_limit m v k here) (f.foreign k) i j h)
+        from : (i j : ℕ) → Has (row (opposed m.conflicts k (row rs k)) i) j → Noted rs (k + 1) i j
+        from i j h = turned i j (opposed_from m.conflicts k (row rs k) (present_limit m v k here) (f.foreign k) i j h)
 
-        back : (i j : ℕ) → Noted rs (k + 1) i j → Opposes m.conflicts k (noted rs k) i j
-        back i j (ahead lt h) = elim (cases_eq i k) [ inl q ↦ forward q (ap (λ p. has (noted rs p) j) (sym q) ∙ h) | inr q ↦ before (c.all i j (ahead (omega arith) h)) ]
-        back i j (behind lt h) = elim (cases_eq j k) [ inl q ↦ backward q (ap (λ p. has (noted rs p) i) (sym q) ∙ h) | inr q ↦ before (c.all i j (behind (omega arith) h)) ]
+        back : (i j : ℕ) → Noted rs (k + 1) i j → Opposes m.conflicts k (row rs k) i j
+        back i j (ahead lt h) = elim (cases_eq i k) [ inl q ↦ forward q (ap (λ p. has (row rs p) j) (sym q) ∙ h) | inr q ↦ before (c.all i j (ahead (omega arith) h)) ]
+        back i j (behind lt h) = elim (cases_eq j k) [ inl q ↦ backward q (ap (λ p. has (row rs p) i) (sym q) ∙ h) | inr q ↦ before (c.all i j (behind (omega arith) h)) ]
 
-        all : (i j : ℕ) → Noted rs (k + 1) i j → Has (row (opposed m.conflicts k (noted rs k)) i) j
+        all : (i j : ℕ) → Noted rs (k + 1) i j → Has (row (opposed m.conflicts k (row rs k)) i) j
         all i j n =
-            opposed_has m.conflicts k (noted rs k) (present_limit m v k here) (f.foreign k) i j
+            opposed_has m.conflicts k (row rs k) (present_limit m v k here) (f.foreign k) i j
             (omega (arith, (both_below (k + 1) i j n).0, v.rows, size_is)) (back i j n)
 
   -- ---- after the last record
@@ -117,11 +117,11 @@ module _ (e : SheetModel) (rs : List ℕ) (f : Filled e rs) (w : Formed e) where
     d = record { clauses = e.clauses; records = rs }
 
     clash_from : (i j : ℕ) → Noted rs (length rs) i j → clash d i j ≡ true
-    clash_from i j (ahead lt h) = or_left (has (noted rs i) j) (has (noted rs j) i) h
-    clash_from i j (behind lt h) = or_right (has (noted rs i) j) (has (noted rs j) i) h
+    clash_from i j (ahead lt h) = or_left (has (row rs i) j) (has (row rs j) i) h
+    clash_from i j (behind lt h) = or_right (has (row rs i) j) (has (row rs j) i) h
 
     from_clash : (i j : ℕ) → clash d i j ≡ true → Noted rs (length rs) i j
-    from_clash i j h = elim (or_cases (has (noted rs i) j) (has (noted rs j) i) h) [ inl g ↦ ahead (noted_below rs i j g) g | inr g ↦ behind (noted_below rs j i g) g ]
+    from_clash i j h = elim (or_cases (has (row rs i) j) (has (row rs j) i) h) [ inl g ↦ ahead (noted_below rs i j g) g | inr g ↦ behind (noted_below rs j i g) g ]
 
     pub closed_both : (i j : ℕ) → has (row m.conflicts i) j ≡ clash d i j
     closed_both i j = go (cases_Bool (has (row m.conflicts i) j)) (cases_Bool (clash d i j))

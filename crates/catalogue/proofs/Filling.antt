@@ -15,12 +15,13 @@ use Rattle.sheets.specs.Limits.{max_clauses}
 use Rattle.sheets.specs.Sheets.{SheetModel}
 use Rattle.sheets.specs.declared.clause.Clause.{Clause}
 use Rattle.sheets.proofs.Forms.{within_more, blank_rows, row_grown}
-use Rattle.catalogue.specs.Drafts.{Draft, is_made, need_made}
-use Rattle.catalogue.specs.Notes.{noted, Filled}
+use Rattle.catalogue.specs.Drafts.{Draft, Kept, is_made, need_made}
+use Rattle.catalogue.specs.Notes.{Filled}
+use Rattle.sheets.specs.Clauses.{row, Among}
 
 -- ---- no component yet
 
-blank_noted : (p : ℕ) → noted [] p ≡ 0
+blank_noted : (p : ℕ) → row [] p ≡ 0
 blank_noted zero = refl
 blank_noted (suc p) = refl
 
@@ -33,13 +34,13 @@ filled_blank = record {
   counted = refl;
   whole = refl;
   unopposed = blank_rows;
-  known = λ p. none_known 0 (noted [] p) (blank_noted p);
+  known = λ p. none_known 0 (row [] p) (blank_noted p);
   foreign = λ p. ap (λ s. has s p) (blank_noted p) ∙ has_empty p;
 }
 
 -- ---- one component more
 
-noted_grown : (rs : List ℕ) (r : ℕ) → r ≡ 0 → (p : ℕ) → noted (rs ++ r ∷ []) p ≡ noted rs p
+noted_grown : (rs : List ℕ) (r : ℕ) → r ≡ 0 → (p : ℕ) → row (rs ++ r ∷ []) p ≡ row rs p
 noted_grown [] r e zero = e
 noted_grown [] r e (suc p) = blank_noted p
 noted_grown (x ∷ rs) r e zero = refl
@@ -59,7 +60,7 @@ filled_grown m rs r e lt f = record {
   counted = length_push rs r ∙ ap (λ n. n + 1) f.counted;
   whole = ap (λ s. bit_or s (2 ^ m.size)) f.whole ∙ below_more m.size lt;
   unopposed = λ i. row_grown m.conflicts i ∙ f.unopposed i;
-  known = λ p. subst (λ s. within s (grown m).present ≡ true) (sym (noted_grown rs r e p)) (within_more (noted rs p) m.present (grown m).present (sub_or_left m.present (2 ^ m.size)) (f.known p));
+  known = λ p. subst (λ s. within s (grown m).present ≡ true) (sym (noted_grown rs r e p)) (within_more (row rs p) m.present (grown m).present (sub_or_left m.present (2 ^ m.size)) (f.known p));
   foreign = λ p. ap (λ s. has s p) (noted_grown rs r e p) ∙ f.foreign p;
 }
 
@@ -114,35 +115,45 @@ module _ (m n : SheetModel) (rs : List ℕ) (p : ℕ) (qs : ℕ) (r : Result (Un
 
 -- ---- one clash more
 
-noted_at : (rs : List ℕ) (p : ℕ) (r : ℕ) → p < length rs → noted (set rs p r) p ≡ r
+noted_at : (rs : List ℕ) (p : ℕ) (r : ℕ) → p < length rs → row (set rs p r) p ≡ r
 noted_at rs p r lt = ap (λ (x : ℕ). x) (get_or-set_same rs p r 0 lt)
 
-noted_other : (rs : List ℕ) (p i : ℕ) (r : ℕ) → (i ≡ p → ⊥) → noted (set rs p r) i ≡ noted rs i
+noted_other : (rs : List ℕ) (p i : ℕ) (r : ℕ) → (i ≡ p → ⊥) → row (set rs p r) i ≡ row rs i
 noted_other rs p i r n = ap (λ (x : ℕ). x) (get_or-set_other rs p i r 0 n)
 
 pub filled_clash : (m : SheetModel) (rs : List ℕ) (p q : ℕ) (r : ℕ) → p < length rs → q < length rs → (p ≡ q → ⊥) → m.size ≤ limit
-    → r ≡ with_member (noted rs p) q → Filled m rs → Filled m (set rs p r)
+    → r ≡ with_member (row rs p) q → Filled m rs → Filled m (set rs p r)
 filled_clash m rs p q r lp lq ne small e f = record {
   counted = length-set rs p r ∙ f.counted;
   whole = f.whole;
   unopposed = f.unopposed;
   known = λ i. elim (cases_eq i p) [
-    | inl h ↦ subst (λ s. within s m.present ≡ true) (sym (at i h)) ((decides_sub (with_member (noted rs p) q) m.present).1 (λ j g. elim (or_cases (has (noted rs p) j) _ (sym (has_with (noted rs p) q j) ∙ g)) [
-      | inl o ↦ (decides_sub (noted rs p) m.present).0 (f.known p) j o
+    | inl h ↦ subst (λ s. within s m.present ≡ true) (sym (at i h)) ((decides_sub (with_member (row rs p) q) m.present).1 (λ j g. elim (or_cases (has (row rs p) j) _ (sym (has_with (row rs p) q j) ∙ g)) [
+      | inl o ↦ (decides_sub (row rs p) m.present).0 (f.known p) j o
       | inr o ↦ there j (eqb-true j q (and_parts (eqb j q) (ltb j limit) o).0)
     ]))
     | inr h ↦ subst (λ s. within s m.present ≡ true) (sym (noted_other rs p i r h)) (f.known i)
   ];
   foreign = λ i. elim (cases_eq i p) [
-    | inl h ↦ ap (λ s. has s i) (at i h) ∙ has_with (noted rs p) q i ∙ or_from (has (noted rs p) i) _ (ap (has (noted rs p)) h ∙ f.foreign p) (and_left (eqb i q) (ltb i limit) (ne_eqb i q (λ g. ne (sym h ∙ g))))
+    | inl h ↦ ap (λ s. has s i) (at i h) ∙ has_with (row rs p) q i ∙ or_from (has (row rs p) i) _ (ap (has (row rs p)) h ∙ f.foreign p) (and_left (eqb i q) (ltb i limit) (ne_eqb i q (λ g. ne (sym h ∙ g))))
     | inr h ↦ ap (λ s. has s i) (noted_other rs p i r h) ∙ f.foreign i
   ];
 }
   where
-    at : (i : ℕ) → i ≡ p → noted (set rs p r) i ≡ with_member (noted rs p) q
-    at i h = ap (noted (set rs p r)) h ∙ noted_at rs p r lp ∙ e
+    at : (i : ℕ) → i ≡ p → row (set rs p r) i ≡ with_member (row rs p) q
+    at i h = ap (row (set rs p r)) h ∙ noted_at rs p r lp ∙ e
 
     there : (j : ℕ) → j ≡ q → Has m.present j
     there j h =
         ap (λ s. has s j) f.whole ∙ has_below_all m.size j
         ∙ and_from (ltb j m.size) (ltb j limit) (lt-ltb j m.size (omega (arith, f.counted))) (lt-ltb j limit (omega (arith, f.counted)))
+
+-- ---- what a draft keeps
+
+pub kept : (m : SheetModel) (rs : List ℕ) → m.size ≤ limit → length m.clauses ≤ max_clauses → Filled m rs → Kept (record { clauses = m.clauses; records = rs })
+kept m rs small few f = record {
+  few = omega (arith, f.counted);
+  room = few;
+  known = subst (λ (present : ℕ). Among present rs) (f.whole ∙ ap below (sym f.counted)) f.known;
+  foreign = f.foreign;
+}

@@ -1,5 +1,5 @@
 -- An open catalogue as it is filled, and the sheet that it closes to.
-use Rattle.std.specs.Prelude.{ℕ, ◌+◌, nat_le, replicate, Bool, cond, ◌&&◌, ◌||◌, List, [], ◌∷◌, ◌++◌, map, length, Ok, Err, Result, ◌==◌, nat_lt, slice_set}
+use Rattle.std.specs.Prelude.{◌≤◌, ℕ, ◌+◌, nat_le, replicate, Bool, cond, ◌&&◌, ◌||◌, List, [], ◌∷◌, ◌++◌, map, length, Ok, Err, Result, ◌==◌, nat_lt, slice_set}
 use Rattle.std.specs.List.{range_with_len}
 use Rattle.sets.specs.Limit.{limit}
 use Rattle.sets.specs.Sets.{has, within, with_member, below, collect}
@@ -8,12 +8,19 @@ use Rattle.refusals.specs.declared.Refusal.TheVariants.{TooMany, TableFull, NoCo
 use Rattle.sheets.specs.Limits.{max_clauses}
 use Rattle.sheets.specs.Sheets.{SheetModel}
 use Rattle.sheets.specs.declared.clause.Clause.{Clause}
-use Rattle.catalogue.specs.Notes.{noted}
+use Rattle.sheets.specs.Clauses.{row, Among, Irreflexive}
 
 -- the clauses in the order of the calls, and for each component the set of those that it was said to clash with
 pub record Draft : Type 0 where
   pub clauses : List Clause
   pub records : List ℕ
+
+-- what every draft keeps that is filled by calls: the limits, and records that name others that were made
+pub record Kept (d : Draft) : Type 0 where
+  pub few : length d.records ≤ limit
+  pub room : length d.clauses ≤ max_clauses
+  pub known : Among (below (length d.records)) d.records
+  pub foreign : Irreflexive d.records
 
 abbrev pub empty_draft : Draft
 empty_draft = record { clauses = []; records = [] }
@@ -43,7 +50,7 @@ need_made d p qs =
 
 -- p's record with q
 abbrev pub with_clash : Draft → ℕ → ℕ → ℕ
-with_clash d p q = with_member (noted d.records p) q
+with_clash d p q = with_member (row d.records p) q
 
 -- p clashes with q, noted at p
 abbrev pub clash_made : Draft → ℕ → ℕ → Result Draft Refusal
@@ -54,7 +61,7 @@ clash_made d p q =
 
 -- whether one of p and q has noted the other
 abbrev pub clash : Draft → ℕ → ℕ → Bool
-clash d p q = has (noted d.records p) q || has (noted d.records q) p
+clash d p q = has (row d.records p) q || has (row d.records q) p
 
 -- the conflict set of p, with what the others noted
 abbrev pub closed_row : Draft → ℕ → ℕ

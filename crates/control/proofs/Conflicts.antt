@@ -8,7 +8,7 @@ use Rattle.std.proofs.lemmas.Bool.Decides.{nat_tests}
 use Rattle.sets.specs.Limit.{limit}
 use Rattle.sets.specs.Sets.{with_member, collect}
 use Rattle.sets.proofs.Membership.{has_with, has_collect, no_members, same_members}
-use Rattle.catalogue.specs.Notes.{noted}
+use Rattle.sheets.specs.Clauses.{row}
 use Rattle.texts.specs.Spans.{look_up}
 use Rattle.stanzas.specs.Notes.{ClashModel}
 use Rattle.control.specs.Grounds.{is_found, against, opposes, record_of, records_of}
@@ -73,7 +73,7 @@ module _ (names : List (List ℕ)) (cs : List ClashModel) (c : ClashModel) where
         ways a b e = grind arith
 
     -- the owner's record with the conflict in it
-    pub clash_records : c.owner < length names → set (records_of names cs) c.owner (with_member (noted (records_of names cs) c.owner) q) ≡ records_of names (cs ++ c ∷ [])
+    pub clash_records : c.owner < length names → set (records_of names cs) c.owner (with_member (row (records_of names cs) c.owner) q) ≡ records_of names (cs ++ c ∷ [])
     clash_records lt =
         fill_by_all (record_of names (cs ++ c ∷ [])) (set rs c.owner new) (length names) 0 (length-set rs c.owner new ∙ length-map-range_with_len (record_of names cs) 0 (length names))
         (λ i h. ways i h (cases_eq i c.owner))
@@ -82,14 +82,14 @@ module _ (names : List (List ℕ)) (cs : List ClashModel) (c : ClashModel) where
         rs = records_of names cs
 
         new : ℕ
-        new = with_member (noted (records_of names cs) c.owner) q
+        new = with_member (row (records_of names cs) c.owner) q
 
         old : (i : ℕ) → i < length names → get_or (records_of names cs) i 0 ≡ record_of names cs i
         old i h = get_or-map-range_with_len (record_of names cs) 0 (length names) i i 0 h (omega arith)
 
-        ways : (i : ℕ) → i < length names → (i ≡ c.owner) ⊎ (i ≡ c.owner → ⊥) → get_or (set (records_of names cs) c.owner (with_member (noted (records_of names cs) c.owner) q)) i 0 ≡ record_of names (cs ++ c ∷ []) i
+        ways : (i : ℕ) → i < length names → (i ≡ c.owner) ⊎ (i ≡ c.owner → ⊥) → get_or (set (records_of names cs) c.owner (with_member (row (records_of names cs) c.owner) q)) i 0 ≡ record_of names (cs ++ c ∷ []) i
         ways i h (inl e) =
-            ap (λ k. get_or (set (records_of names cs) c.owner (with_member (noted (records_of names cs) c.owner) q)) k 0) e
+            ap (λ k. get_or (set (records_of names cs) c.owner (with_member (row (records_of names cs) c.owner) q)) k 0) e
             ∙ get_or-set_same (records_of names cs) c.owner _ 0 (omega (arith, length-map-range_with_len (record_of names cs) 0 (length names)))
             ∙ (ap (λ r. with_member r q) (old c.owner lt) ∙ sym here)
             ∙ ap (record_of names (cs ++ c ∷ [])) (sym e)

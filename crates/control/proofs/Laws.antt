@@ -5,7 +5,7 @@ use Rattle.std.proofs.lemmas.Bool.{lt-ltb}
 use Rattle.sets.specs.Sets.{has, collect}
 use Rattle.sets.proofs.Membership.{has_collect}
 use Rattle.catalogue.specs.Drafts.{clash, closed_row}
-use Rattle.catalogue.specs.Notes.{noted}
+use Rattle.sheets.specs.Clauses.{row}
 use Rattle.stanzas.specs.Notes.{ClashModel, and_then}
 use Rattle.stanzas.proofs.ReadBack.{read_back}
 use Rattle.control.specs.Grounds.{opposes, record_of, records_of, draft_of, described}
@@ -19,7 +19,7 @@ has_below : (f : ℕ → Bool) (k q : ℕ) → q < k → has (collect f k) q ≡
 has_below f k q lt = has_collect f k q ∙ ap (λ t. t && f q) (lt-ltb q k lt)
 
 -- what the record of p names
-recorded : (names : List (List ℕ)) (cs : List ClashModel) (p q : ℕ) → p < length names → q < length names → has (noted (records_of names cs) p) q ≡ opposes names cs p q
+recorded : (names : List (List ℕ)) (cs : List ClashModel) (p q : ℕ) → p < length names → q < length names → has (row (records_of names cs) p) q ≡ opposes names cs p q
 recorded names cs p q lp lq =
     ap (λ r. has r q) (get_or-map-range_with_len (record_of names cs) 0 (length names) p p 0 lp (omega arith)) ∙ has_below (opposes names cs p) (length names) q lq
 
@@ -30,5 +30,5 @@ conflicts_named n p q lp lq =
     let many : length rs ≡ length n.names = length-map-range_with_len (record_of n.names n.clashes) 0 (length n.names) in
     ap (λ s. has s q) (get_or-map-range_with_len (closed_row d) 0 (length rs) p p 0 (omega (arith, many)) (omega arith))
     ∙ has_below (clash d p) (length rs) q (omega (arith, many))
-    ∙ ap (λ t. t || has (noted rs q) p) (recorded n.names n.clashes p q lp lq)
+    ∙ ap (λ t. t || has (row rs q) p) (recorded n.names n.clashes p q lp lq)
     ∙ ap (λ t. opposes n.names n.clashes p q || t) (recorded n.names n.clashes q p lq lp)

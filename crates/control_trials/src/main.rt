@@ -29,10 +29,10 @@ fn print_names(rt: &impl Print, file: &ControlFile) -> io::Result<()> {
     let size = file.size();
     print!(rt; "{} names", file.present().len())?;
     for component in file.present().iter().skip(size.saturating_sub(SHOWN)) {
-        if let Ok(name) = file.name(component) {
-            if file.find(name) == Some(component) {
-                print_name(rt, name)?;
-            }
+        if let Ok(name) = file.name(component)
+            && file.find(name) == Some(component)
+        {
+            print_name(rt, name)?;
         }
     }
     if file.find(b"absent").is_some() {
@@ -100,21 +100,22 @@ fn table(
     Ok(())
 }
 
-/// The small texts about lines and fields.
-fn line_trials(rt: &(impl Print + AllocGlobal)) -> io::Result<()> {
-    table(rt, 100, b"", small::LINES)?;
-    table(rt, 200, b"", small::LABELS)?;
-    table(rt, 300, b"", small::CONTINUATIONS)?;
-    table(rt, 400, b"", small::STRAYS)
-}
-
-/// The small texts about values, and what they mean.
-fn value_trials(rt: &(impl Print + AllocGlobal)) -> io::Result<()> {
-    table(rt, 500, b"", small::PACKAGES)?;
-    table(rt, 600, b"", small::NAMES)?;
-    table(rt, 700, b"", small::DEPENDS)?;
-    table(rt, 800, b"", small::CONFLICTS)?;
-    table(rt, 900, b"", small::MEANINGS)
+/// The small texts: about lines and fields, about values, and about what they mean.
+fn small_trials(rt: &(impl Print + AllocGlobal)) -> io::Result<()> {
+    for (first, texts) in [
+        (100, small::LINES),
+        (200, small::LABELS),
+        (300, small::CONTINUATIONS),
+        (400, small::STRAYS),
+        (500, small::PACKAGES),
+        (600, small::NAMES),
+        (700, small::DEPENDS),
+        (800, small::CONFLICTS),
+        (900, small::MEANINGS),
+    ] {
+        table(rt, first, b"", texts)?;
+    }
+    Ok(())
 }
 
 /// Texts with 512 clauses, and what follows them.
@@ -145,8 +146,7 @@ fn length_trials(rt: &(impl Print + AllocGlobal), first: usize, length: usize) -
 
 fn run(rt: &(impl Print + Input + AllocGlobal)) -> io::Result<()> {
     example_trial(rt)?;
-    line_trials(rt)?;
-    value_trials(rt)?;
+    small_trials(rt)?;
     clause_trials(rt)?;
     component_trials(
         rt,

@@ -1,6 +1,6 @@
 //! The small texts, in groups. Each comment speaks of the texts that follow it.
 
-/// 6.2 to 6.5: lines, empty lines, stanzas and odd bytes.
+/// RULES.md 6.2 to 6.5: lines, empty lines, stanzas and odd bytes.
 pub const LINES: &[&[u8]] = &[
     // an empty file
     b"",
@@ -33,7 +33,7 @@ pub const LINES: &[&[u8]] = &[
     b"\xef\xbb\xbfPackage: map\n",
 ];
 
-/// 6.6 to 6.9: labels.
+/// RULES.md 6.6 to 6.9: labels.
 pub const LABELS: &[&[u8]] = &[
     // no blank behind the colon
     b"Package:map\n",
@@ -70,7 +70,7 @@ pub const LABELS: &[&[u8]] = &[
     b"Package: map\nDepends: map: font\n",
 ];
 
-/// 6.10: continuation lines.
+/// RULES.md 6.10: continuation lines.
 pub const CONTINUATIONS: &[&[u8]] = &[
     // as the first line
     b" more\nPackage: map\n",
@@ -95,7 +95,7 @@ pub const CONTINUATIONS: &[&[u8]] = &[
     b"Package: map\nSection: hall",
 ];
 
-/// 6.8: fields where they may not stand.
+/// RULES.md 6.8: fields where they may not stand.
 pub const STRAYS: &[&[u8]] = &[
     // a stanza begins with another field
     b"Depends: map\n",
@@ -123,7 +123,7 @@ pub const STRAYS: &[&[u8]] = &[
     b"Depends map\n",
 ];
 
-/// 6.12, 6.23, 6.25: values of Package.
+/// RULES.md 6.12, 6.23, 6.25: values of Package.
 pub const PACKAGES: &[&[u8]] = &[
     // no value
     b"Package:\n",
@@ -161,7 +161,7 @@ pub const PACKAGES: &[&[u8]] = &[
     b"Package: map\nDepends: ,\n\nPackage: map\n",
 ];
 
-/// 6.11: good and bad names.
+/// RULES.md 6.11: good and bad names.
 pub const NAMES: &[&[u8]] = &[
     // 1, 2, 64 and 65 bytes
     b"Package: x",
@@ -192,7 +192,7 @@ pub const NAMES: &[&[u8]] = &[
     b"Package: \r\n",
 ];
 
-/// 6.13: values of Depends.
+/// RULES.md 6.13: values of Depends.
 pub const DEPENDS: &[&[u8]] = &[
     // nothing
     b"Package: map\nDepends:\n",
@@ -231,7 +231,7 @@ pub const DEPENDS: &[&[u8]] = &[
     b"Package: map\nDepends: \r\n",
 ];
 
-/// 6.14: values of Conflicts.
+/// RULES.md 6.14: values of Conflicts.
 pub const CONFLICTS: &[&[u8]] = &[
     // nothing
     b"Package: map\nConflicts:\n",
@@ -260,7 +260,7 @@ pub const CONFLICTS: &[&[u8]] = &[
     b"Package: map\nConflicts: font\r\n",
 ];
 
-/// 6.15 to 6.17: what the names mean.
+/// RULES.md 6.15 to 6.17: what the names mean.
 pub const MEANINGS: &[&[u8]] = &[
     // earlier, own and later names, in clauses and in conflicts
     b"Package: aa\nDepends: aa, bb, cc\n\nPackage: bb\nDepends: cc|bb|aa\n\nPackage: cc\nDepends: aa | bb, cc\n",
@@ -295,7 +295,7 @@ pub const MEANINGS: &[&[u8]] = &[
       Package: codec-b\n",
 ];
 
-/// 6.24: what may follow 512 clauses of one component.
+/// RULES.md 6.24: what may follow 512 clauses of one component.
 pub const AFTER_CLAUSES: &[&[u8]] = &[
     b"\n",
     // a last clause that does not close well
@@ -330,7 +330,7 @@ pub const AFTER_CLAUSES: &[&[u8]] = &[
     b"\nConflicts: map, font\n\nPackage: font\nConflicts: map\n",
 ];
 
-/// 6.24: what may follow 64 components with 8 clauses each.
+/// RULES.md 6.24: what may follow 64 components with 8 clauses each.
 pub const AFTER_SPREAD: &[&[u8]] = &[
     b"\nConflicts: c1, c2\n",
     b", c1 | c2",
@@ -338,7 +338,7 @@ pub const AFTER_SPREAD: &[&[u8]] = &[
     b"\n\nPackage: c64\nDepends: c0\n",
 ];
 
-/// 6.20: what may follow 64 components.
+/// RULES.md 6.20: what may follow 64 components.
 pub const AFTER_COMPONENTS: &[&[u8]] = &[
     b"",
     b"\n\n\n\n",
@@ -361,7 +361,7 @@ pub const AFTER_COMPONENTS: &[&[u8]] = &[
     b"\n\n Package: c64\n",
 ];
 
-/// 6.1: how texts of 65,535 bytes and of one more begin, and the byte that fills them up.
+/// RULES.md 6.1: how texts of 65,535 bytes and of one more begin, and the byte that fills them up.
 pub const HEADS: &[(&[u8], &[u8])] = &[
     (b"Package: map\nSection: ", b"x"),
     (b"", b"\n"),

@@ -3,8 +3,9 @@ use Rattle.std.proofs.Common.{◌≡◌, ℕ, ◌+◌, ◌/◌, ◌^◌, Bool, t
 use lib.Bits.{bit_or, or_comm, or_shifted, and_mask, bit_and}
 use Rattle.std.proofs.lemmas.Bool.{cases_eq, both_ways, ne_eqb, and_parts}
 use Rattle.std.proofs.Common.{◌<◌, ◌||◌, List, [], ◌∷◌, length, drop, get_or, drop-cons, ltb}
+use Rattle.std.specs.List.{list_any}
 use Rattle.sets.specs.Limit.{limit}
-use Rattle.sets.specs.Sets.{has, Has, Subset, MadeOf, minus, collect, with_member, with_members, listed}
+use Rattle.sets.specs.Sets.{has, Has, Subset, MadeOf, minus, collect, with_member, with_members}
 use Rattle.sets.proofs.Membership.{has_minus, has_single, has_empty, has_with, collect_lt}
 
 -- `a >> i & 1 == 1`
@@ -54,15 +55,13 @@ visited_all {P} {s} {rest} v z i h = v.seen i h (ap (λ (x : ℕ). has x i) z �
 
 -- the number at k, before the later ones
 pub with_next : (s : ℕ) (is : List ℕ) (k : ℕ) → k < length is → with_members s (drop k is) ≡ with_members (with_member s (get_or is k 0)) (drop (k + 1) is)
-unfolding with_members
 with_next s is k h = rw (drop-cons is k 0, ← add-one k)
 
 -- the members of s and of the list
-pub has_with_members : (s : ℕ) (is : List ℕ) (i : ℕ) → has (with_members s is) i ≡ (has s i || (listed is i && ltb i limit))
-unfolding with_members listed
+pub has_with_members : (s : ℕ) (is : List ℕ) (i : ℕ) → has (with_members s is) i ≡ (has s i || (list_any (λ j. eqb i j) is && ltb i limit))
 has_with_members s [] i = grind arith
 has_with_members s (j ∷ js) i =
-    let e : has (with_members (with_member s j) js) i ≡ (has (with_member s j) i || (listed js i && ltb i limit)) = has_with_members (with_member s j) js i in
+    let e : has (with_members (with_member s j) js) i ≡ (has (with_member s j) i || (list_any (λ j. eqb i j) js && ltb i limit)) = has_with_members (with_member s j) js i in
     let w : has (with_member s j) i ≡ (has s i || (eqb i j && ltb i limit)) = has_with s j i in
     grind arith
 
@@ -70,5 +69,5 @@ has_with_members s (j ∷ js) i =
 pub made_of : (is : List ℕ) (s : ℕ) → s ≡ with_members 0 is → MadeOf is s
 made_of is s e = record {
   value = e;
-  members = λ i. ap (λ (x : ℕ). has x i) e ∙ has_with_members 0 is i ∙ ap (λ b. b || (listed is i && ltb i limit)) (has_empty i);
+  members = λ i. ap (λ (x : ℕ). has x i) e ∙ has_with_members 0 is i ∙ ap (λ b. b || (list_any (λ j. eqb i j) is && ltb i limit)) (has_empty i);
 }

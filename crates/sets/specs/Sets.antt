@@ -1,6 +1,7 @@
 -- A set of component numbers is a natural number: i is a member where its binary digit i is 1.
 -- Nothing here but `with_member` and `below` knows how many components there can be.
-use Rattle.std.specs.Prelude.{◌≡◌, ℕ, zero, suc, ◌+◌, ◌-◌, ◌/◌, ◌%◌, ◌^◌, ◌<◌, min, Bool, true, false, cond, not, ◌&&◌, ◌||◌, List, [], ◌∷◌, ◌++◌, length, ◌==◌, bit_and, bit_or, bit_xor, nat_lt}
+use Rattle.std.specs.Prelude.{◌≡◌, ℕ, zero, suc, ◌+◌, ◌-◌, ◌/◌, ◌%◌, ◌^◌, ◌<◌, min, Bool, true, false, cond, not, ◌&&◌, ◌||◌, List, [], ◌∷◌, ◌++◌, length, ◌==◌, bit_and, bit_or, bit_xor, nat_lt, fold}
+use Rattle.std.specs.List.{list_any}
 use Rattle.sets.specs.Limit.{limit}
 
 -- whether i is a member of s
@@ -48,19 +49,13 @@ unfoldable pub with_member : ℕ → ℕ → ℕ
 with_member s i = cond (nat_lt i limit) (bit_or s (2 ^ i)) s
 
 -- s with each of these numbers
-unfoldable pub with_members : ℕ → List ℕ → ℕ
-with_members s [] = s
-with_members s (i ∷ is) = with_members (with_member s i) is
-
--- whether i is one of these numbers
-unfoldable pub listed : List ℕ → ℕ → Bool
-listed [] i = false
-listed (j ∷ js) i = i == j || listed js i
+abbrev pub with_members : ℕ → List ℕ → ℕ
+with_members = fold with_member
 
 -- s is the set of these numbers, but those that can be no members
 pub record MadeOf (is : List ℕ) (s : ℕ) : Type 0 where
   pub value : s ≡ with_members 0 is
-  pub members : (i : ℕ) → has s i ≡ (listed is i && nat_lt i limit)
+  pub members : (i : ℕ) → has s i ≡ (list_any (λ j. i == j) is && nat_lt i limit)
 
 -- the numbers below n that can be members
 unfoldable pub below : ℕ → ℕ

@@ -68,6 +68,7 @@ impl ComponentSet {
     pub fn contains(self, component: usize) -> bool
         ensures value { result ≡ has self component }
         ensures extensional { (t : ℕ) → ((i : ℕ) → has t i ≡ has self i) → t ≡ self }
+        ensures bounded { self < 2 ^ limit }
     {
         component < Self::LIMIT && self.bits >> component & 1 == 1
     }

@@ -4,7 +4,7 @@ ghost use Rattle.sheets.specs.Changes.{Goes};
 ghost use Rattle.sheets.specs.Sheets.{model, conflicts_of};
 ghost use Rattle.catalogue.specs.Notes.{Filled};
 ghost use Rattle.catalogue.specs.Examples.{Examples};
-ghost use Rattle.catalogue.specs.Drafts.{empty_draft, component_made, components_made, need_made, clash_made, clash, closed};
+ghost use Rattle.catalogue.specs.Drafts.{Kept, empty_draft, component_made, components_made, need_made, clash_made, clash, closed};
 
 use super::OpenCatalogue;
 use crate::closed::ClosedCatalogue;
@@ -75,6 +75,7 @@ impl OpenCatalogue {
     pub fn close(self) -> ClosedCatalogue
         ensures sheet { model result.sheet ≡ closed self }
         ensures both { (p q : ℕ) → has (conflicts_of (model result.sheet) p) q ≡ clash self p q }
+        ensures kept { Kept self }
         ensures examples { Examples }
     {
         let OpenCatalogue { mut sheet, records } = self;

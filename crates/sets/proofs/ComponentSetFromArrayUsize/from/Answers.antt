@@ -11,7 +11,6 @@ loop-component-preserved g c =
     ∙ c.loop-component.invariant
 
 pub returns : goal.returns
-unfolding with_members
 returns g c =
     let past : length c.args.components ≤ c.loop-component.component-index = omega arith in
     made_of c.args.components c.loop-component.set (ap (with_members c.loop-component.set) (sym (drop_of_length-le c.args.components past)) ∙ c.loop-component.invariant)

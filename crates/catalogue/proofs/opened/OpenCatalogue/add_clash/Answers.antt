@@ -2,7 +2,7 @@ use Rattle.std.proofs.Common.{◌≡◌, ◌<◌, length, vec_items, ap, ◌∙�
 use Rattle.std.proofs.lemmas.List.{get_or_read}
 use Rattle.sets.specs.Sets.{with_member}
 use Rattle.sheets.specs.Sheets.{model}
-use Rattle.catalogue.specs.Notes.{noted}
+use Rattle.sheets.specs.Clauses.{row}
 use Rattle.catalogue.proofs.Filling.{filled_clash}
 use Rattle.catalogue.proofs.opened.OpenCatalogue.add_clash.Goals as goal
 
@@ -13,6 +13,6 @@ invariant_of-self c =
     let q = c.args.other in
     let lp : p < length (vec_items o.records) = omega (arith, c.len.ensures, o.records.ok.0) in
     let lq : q < length (vec_items o.records) = omega (arith, c.len-else-component-len.ensures, o.records.ok.0) in
-    let is : c.note.new.self ≡ with_member (noted (vec_items o.records) p) q =
+    let is : c.note.new.self ≡ with_member (row (vec_items o.records) p) q =
     c.note.ensures ∙ ap (λ x. with_member x q) (get_or_read (vec_items o.records) p c.index_mut-record.result.now lp c.index_mut-record.ensures.value 0) in
     (filled_clash (model o.sheet) (vec_items o.records) p q c.note.new.self lp lq c.if-component-other.false o.sheet.small is c.self.invariant.0, c.self.invariant.1)

@@ -1,6 +1,6 @@
 -- A set of component numbers is a natural number: i is a member where its binary digit i is 1.
 -- Nothing here but `with_member` and `below` knows how many components there can be.
-use Rattle.std.specs.Prelude.{◌≡◌, ℕ, zero, suc, ◌+◌, ◌-◌, ◌/◌, ◌%◌, ◌^◌, ◌<◌, min, Bool, true, false, cond, not, ◌&&◌, ◌||◌, List, [], ◌∷◌, ◌++◌, length, ◌==◌, bit_and, bit_or, bit_xor, nat_lt, fold}
+use Rattle.std.specs.Prelude.{◌≡◌, ℕ, zero, suc, ◌+◌, ◌-◌, ◌/◌, ◌%◌, ◌^◌, ◌<◌, min, Bool, true, false, cond, not, ◌&&◌, List, [], ◌∷◌, ◌++◌, length, ◌==◌, bit_and, bit_or, bit_xor, nat_lt, fold}
 use Rattle.std.specs.List.{list_any}
 use Rattle.sets.specs.Limit.{limit}
 

@@ -20,13 +20,13 @@ abbrev pub line_of : Line → LineModel
 line_of l = record { place = l.start; text = drop l.start l.text.now }
 
 -- the lines that are still to come
-abbrev pub left : Lines → List LineModel
-left ls = lines false ls.at (drop ls.at ls.text.now)
+abbrev pub lines_left : Lines → List LineModel
+lines_left ls = lines false ls.at (drop ls.at ls.text.now)
 
 -- r is the first of the lines that a has left, and b has the others
 abbrev pub GivesLine : Lines → Option Line → Lines → Type 0
-GivesLine a None b = left a ≡ []
-GivesLine a (Some l) b = (left a ≡ line_of l ∷ left b) × IsFront l.text.now a.text.now × (b.text.now ≡ a.text.now)
+GivesLine a None b = lines_left a ≡ []
+GivesLine a (Some l) b = (lines_left a ≡ line_of l ∷ lines_left b) × IsFront l.text.now a.text.now × (b.text.now ≡ a.text.now)
 
 -- ---- notes
 

@@ -11,7 +11,7 @@ use Rattle.stanzas.specs.Tokens.{Named}
 use Rattle.stanzas.specs.Spans.{IsFront, mention}
 use Rattle.stanzas.specs.Notes.{NotesModel, and_then, name_added, added}
 use Rattle.stanzas.specs.Values.{alone, single, listed, related}
-use Rattle.stanzas.specs.Cursors.{rest, end, ReadsName, onward, NameRead, after, SeparatorRead, Begun}
+use Rattle.stanzas.specs.Cursors.{rest, end, ReadsName, onward, NameRead, ListFault, after, SeparatorRead, Begun}
 use Rattle.stanzas.specs.Views.{Stops, Leaves}
 use Rattle.stanzas.specs.declared.cursor.Cursor.{Cursor}
 use Rattle.stanzas.specs.declared.cursor.Separator.{Separator}
@@ -60,7 +60,7 @@ module _ (r : Relation) where
 
   module _ (text : List ℕ) (n : NotesModel) (clause longer : List Span) (s : Span) (q : Result Separator Fault) (a b d : Cursor) where
     -- a name and what stands after it
-    pub turned : IsFront a.text.now text → NameRead r (Ok s) a b → SeparatorRead r q b d → longer ≡ clause ++ s ∷ [] → onward r a n (map (mention text) clause) ≡ and_then q (after r d n (map (mention text) longer))
+    pub turned : IsFront a.text.now text → NameRead (ListFault r) (Ok s) a b → SeparatorRead r q b d → longer ≡ clause ++ s ∷ [] → onward r a n (map (mention text) clause) ≡ and_then q (after r d n (map (mention text) longer))
     turned is name stop more =
         let front = map (mention text) clause in
         ap (listed r (end a) n front) (name.reads.0 ∙ ap (λ m. Named m ∷ rest b) (front_mention a.text.now text s is name.reads.1))

@@ -56,12 +56,12 @@ abbrev pub Stops : {X : Type 0} → Failure Fault → Result X Fault → Type 0
 Stops (Refused x) want = want ≡ Err x
 Stops OutOfMemory want = Unit {0}
 
+-- a call gives what is due, as view sees it, or it stops
+abbrev pub Answers : {A X : Type 0} → (A → X) → Result A (Failure Fault) → Result X Fault → Type 0
+Answers view (Ok a) want = want ≡ Ok (view a)
+Answers view (Err e) want = Stops e want
+
 -- a call that changes notes does what is due and leaves the notes b, of the same text, or it stops
 abbrev pub Leaves : Result (Unit {0}) (Failure Fault) → Result NotesModel Fault → Notes → Notes → Type 0
 Leaves (Ok u) want a b = (want ≡ Ok (notes_of b)) × (b.text.now ≡ a.text.now)
 Leaves (Err e) want a b = Stops e want
-
--- a call that makes notes from a text gives those that are due, or it stops
-abbrev pub Gives : List ℕ → Result Notes (Failure Fault) → Result NotesModel Fault → Type 0
-Gives text (Ok n) want = (want ≡ Ok (notes_of n)) × (n.text.now ≡ text)
-Gives text (Err e) want = Stops e want

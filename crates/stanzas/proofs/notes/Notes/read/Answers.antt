@@ -3,7 +3,7 @@ use Rattle.std.proofs.lemmas.Result.{err_from_is_err_and}
 use Rattle.stanzas.specs.Notes.{start, and_then}
 use Rattle.stanzas.specs.Files.{stanzas, reading}
 use Rattle.stanzas.specs.Views.{lines_left, notes_of}
-use Rattle.stanzas.proofs.FileSteps.{by_lines, gives_stopped}
+use Rattle.stanzas.proofs.FileSteps.{by_lines, stopped}
 use Rattle.stanzas.proofs.ReadBack.{read_back}
 use Rattle.stanzas.proofs.Sound.{reading_sound}
 use Rattle.stanzas.proofs.ValueSteps.{stops_then, stays}
@@ -36,7 +36,7 @@ loop-line-preserved c = record {
 pub returns-in_err-read_line-clause-value : goal.returns-in_err-read_line-clause-value
 returns-in_err-read_line-clause-value c =
     let p = err_from_is_err_and c.from_residual.result c.from_residual.ensures.1 in
-    gives_stopped c.args.text.now _ p.0 _ _ p.1 p.2
+    stopped _ p.0 _ _ p.1 p.2
     (stops_then _ _ _ (λ m. stanzas m (lines_left c.next.new.self))
     (by_lines c.args.text.now (omega arith) ∙ c.loop-line.invariant.says ∙ ap (stanzas (notes_of c.loop-line.notes)) c.in-Some.ensures.steps.0)
     c.in_err-read_line.ensures)
@@ -49,7 +49,10 @@ said : (c : In-None) → reading c.args.text.now ≡ Ok (notes_of c.loop-line.no
 said c = by_lines c.args.text.now (omega arith) ∙ c.loop-line.invariant.says ∙ ap (stanzas (notes_of c.loop-line.notes)) c.in-None.ensures.steps
 
 pub returns-clause-value : goal.returns-clause-value
-returns-clause-value c = (said c, c.loop-line.invariant.text)
+returns-clause-value c = said c
+
+pub returns-clause-text : goal.returns-clause-text
+returns-clause-text c = c.loop-line.invariant.text
 
 pub returns-clause-sound : goal.returns-clause-sound
 returns-clause-sound c = reading_sound c.args.text.now (notes_of c.loop-line.notes) (said c)

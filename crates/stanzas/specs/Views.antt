@@ -61,7 +61,6 @@ abbrev pub Answers : {A X : Type 0} → (A → X) → Result A (Failure Fault) �
 Answers view (Ok a) want = want ≡ Ok (view a)
 Answers view (Err e) want = Stops e want
 
--- a call that changes notes does what is due and leaves the notes b, of the same text, or it stops
+-- a call that changes notes does what is due and leaves the notes b, or it stops; the text is the same
 abbrev pub Leaves : Result (Unit {0}) (Failure Fault) → Result NotesModel Fault → Notes → Notes → Type 0
-Leaves (Ok u) want a b = (want ≡ Ok (notes_of b)) × (b.text.now ≡ a.text.now)
-Leaves (Err e) want a b = Stops e want
+Leaves r want a b = Answers (λ u. notes_of b) r want × (b.text.now ≡ a.text.now)

@@ -3,10 +3,10 @@ use Rattle.std.proofs.lemmas.Result.{err_from_is_err_and}
 use Rattle.stanzas.specs.Notes.{start, and_then}
 use Rattle.stanzas.specs.Files.{stanzas, reading}
 use Rattle.stanzas.specs.Views.{lines_left, notes_of}
-use Rattle.stanzas.proofs.FileSteps.{by_lines, stopped}
+use Rattle.stanzas.proofs.FileSteps.{by_lines}
 use Rattle.stanzas.proofs.ReadBack.{read_back}
 use Rattle.stanzas.proofs.Sound.{reading_sound}
-use Rattle.stanzas.proofs.ValueSteps.{stops_then, stays}
+use Rattle.stanzas.proofs.ValueSteps.{stopped, stops_then, stays}
 use Rattle.stanzas.proofs.notes.Notes.read.Goals as goal
 use Rattle.stanzas.proofs.notes.Notes.read.Goals.{In-None}
 
@@ -36,10 +36,10 @@ loop-line-preserved c = record {
 pub returns-in_err-read_line-clause-value : goal.returns-in_err-read_line-clause-value
 returns-in_err-read_line-clause-value c =
     let p = err_from_is_err_and c.from_residual.result c.from_residual.ensures.1 in
-    stopped _ p.0 _ _ p.1 p.2
+    stopped notes_of _ p.0 _ _ p.1 p.2
     (stops_then _ _ _ (λ m. stanzas m (lines_left c.next.new.self))
     (by_lines c.args.text.now (omega arith) ∙ c.loop-line.invariant.says ∙ ap (stanzas (notes_of c.loop-line.notes)) c.in-Some.ensures.steps.0)
-    c.in_err-read_line.ensures)
+    c.in_err-read_line.ensures.0)
 
 pub returns-in_err-read_line-clause-plain : goal.returns-in_err-read_line-clause-plain
 returns-in_err-read_line-clause-plain c = read_back

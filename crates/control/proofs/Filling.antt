@@ -1,5 +1,6 @@
 -- Filling a catalogue from notes: no call is declined.
 use Rattle.std.proofs.Common.{◌≡◌, ℕ, zero, suc, ◌+◌, ◌<◌, true, ltb, List, [], ◌∷◌, ◌++◌, map, length, get_or, take, replicate, Some, None, Ok, sym, ap, ◌∙◌, subst, arith}
+use Rattle.std.specs.List.{list_all}
 use Rattle.std.proofs.lemmas.List.FromFn.{length-map-range_with_len}
 use Rattle.std.proofs.lemmas.List.{length-map, length-replicate, length-take-le, map_more, take_more}
 use Rattle.std.proofs.lemmas.Bool.{and_from, and_parts, cond-true, cond-false, lt-ltb, ltb-true, ne_eqb}
@@ -8,17 +9,18 @@ use Rattle.sheets.specs.Limits.{max_clauses}
 use Rattle.catalogue.specs.Drafts.{Draft, need_made, clash_made}
 use Rattle.texts.specs.Spans.{look_up}
 use Rattle.stanzas.specs.Notes.{NeedModel, ClashModel, NotesModel}
-use Rattle.stanzas.specs.Sound.{needs_owned, clashes_owned, Sound}
+use Rattle.stanzas.specs.Sound.{Sound}
 use Rattle.control.specs.Grounds.{known, clause_of, record_of, records_of}
 use Rattle.control.proofs.Conflicts.{unknown_same, own_same, clash_records}
 use Rattle.control.proofs.Meanings.{found_below, known_within}
 
--- ---- clauses
+-- where all the owners are components, so is that of the one at a place
+owner_at : {X : Type 0} (owner : X → ℕ) (size : ℕ) (xs : List X) (k : ℕ) (d : X) → list_all (λ x. ltb (owner x) size) xs ≡ true → k < length xs → owner (get_or xs k d) < size
+owner_at owner size [] k d h lt = absurd (omega arith)
+owner_at owner size (x ∷ xs) zero d h lt = ltb-true (owner x) size (and_parts _ _ h).0
+owner_at owner size (x ∷ xs) (suc k) d h lt = owner_at owner size xs k d (and_parts _ _ h).1 (omega arith)
 
-needs_owner : (size : ℕ) (ns : List NeedModel) (k : ℕ) (d : NeedModel) → needs_owned size ns ≡ true → k < length ns → (get_or ns k d).owner < size
-needs_owner size [] k d h lt = absurd (omega arith)
-needs_owner size (n ∷ ns) zero d h lt = ltb-true n.owner size (and_parts (ltb n.owner size) (needs_owned size ns) h).0
-needs_owner size (n ∷ ns) (suc k) d h lt = needs_owner size ns k d (and_parts (ltb n.owner size) (needs_owned size ns) h).1 (omega arith)
+-- ---- clauses
 
 -- with the first k clauses
 abbrev pub needs_up_to : NotesModel → ℕ → Draft
@@ -30,18 +32,13 @@ need_more n k d s lt =
     let size : ℕ = length (replicate {A = ℕ} (length n.names) 0) in
     let made : length (replicate {A = ℕ} (length n.names) 0) ≡ length n.names = length-replicate {A = ℕ} (length n.names) 0 in
     let x = get_or n.needs k d in
-    let owned = lt-ltb x.owner size (omega (arith, made, needs_owner (length n.names) n.needs k d s.needs_have_owners lt)) in
+    let owned = lt-ltb x.owner size (omega (arith, made, owner_at (λ (m : NeedModel). m.owner) (length n.names) n.needs k d s.needs_have_owners lt)) in
     let named = subst (λ (m : ℕ). within (known n.names x.names) (below m) ≡ true) (sym made) (known_within n.names x.names) in
     let room = lt-ltb (length (map (clause_of n.names) (take k n.needs))) max_clauses
     (omega (arith, length-map (take k n.needs) (clause_of n.names), length-take-le k n.needs (omega arith), s.room)) in
     cond-true _ _ _ (and_from _ _ owned named) ∙ cond-true _ _ _ room ∙ ap (λ cs. Ok (record { clauses = cs; records = replicate (length n.names) 0 })) (sym (map_more (clause_of n.names) n.needs k d lt))
 
 -- ---- conflicts
-
-clashes_owner : (size : ℕ) (cs : List ClashModel) (k : ℕ) (d : ClashModel) → clashes_owned size cs ≡ true → k < length cs → (get_or cs k d).owner < size
-clashes_owner size [] k d h lt = absurd (omega arith)
-clashes_owner size (c ∷ cs) zero d h lt = ltb-true c.owner size (and_parts (ltb c.owner size) (clashes_owned size cs) h).0
-clashes_owner size (c ∷ cs) (suc k) d h lt = clashes_owner size cs k d (and_parts (ltb c.owner size) (clashes_owned size cs) h).1 (omega arith)
 
 -- with all the clauses and the first k conflicts
 abbrev pub clashes_up_to : NotesModel → ℕ → Draft
@@ -70,7 +67,7 @@ module _ (n : NotesModel) (k : ℕ) (d : ClashModel) (s : Sound n) (lt : k < len
       let size = length (records_of n.names cs) in
       let made : size ≡ length n.names = length-map-range_with_len (record_of n.names cs) 0 (length n.names) in
       let there = found_below n.names x.name q e in
-      let own = clashes_owner (length n.names) n.clashes k d s.clashes_have_owners lt in
+      let own = owner_at (λ (m : ClashModel). m.owner) (length n.names) n.clashes k d s.clashes_have_owners lt in
       cond-true _ _ _ (and_from _ _ (lt-ltb x.owner size (omega (arith, made, own))) (lt-ltb q size (omega (arith, made, there))))
       ∙ cond-false _ _ _ (ne_eqb x.owner q (λ h. o (sym h)))
       ∙ ap (λ rs. Ok (related rs)) (clash_records n.names cs x q e there s.few (λ h. o (sym h)) own)

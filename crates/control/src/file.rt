@@ -2,9 +2,10 @@ ghost use Rattle.std.specs.Prelude.{◌≡◌, Ok, Err, MatchResult};
 ghost use Rattle.sheets.specs.Sheets.{model};
 ghost use Rattle.levels.specs.Piles.{ground};
 ghost use Rattle.texts.specs.Spans.{look_up};
+ghost use Rattle.stanzas.specs.Views.{Answers};
 ghost use Rattle.control.specs.Examples.{Examples};
-ghost use Rattle.control.specs.Grounds.{name_at};
-ghost use Rattle.control.specs.Views.{view, Holds};
+ghost use Rattle.control.specs.Grounds.{contents, name_at};
+ghost use Rattle.control.specs.Views.{view};
 ghost use Rattle.control.specs.Laws.{HoldsWritten, ConflictsNamed};
 ghost use Rattle.std.proofs.Common.{rules};
 
@@ -30,7 +31,7 @@ impl ControlFile {
     /// Reads a control file. An error is the first fault in it, or want of memory.
     #[tactic(auto, using(crate::proofs::Laws::holds_written, crate::proofs::Laws::conflicts_named, crate::proofs::Examples::examples))]
     pub fn read(heap: Global, text: Vec<u8>) -> Result<ControlFile, ReadError>
-        ensures value { Holds text.items result }
+        ensures value { Answers view result (contents text.items) }
         ensures written { HoldsWritten }
         ensures conflicts { ConflictsNamed }
         ensures examples { Examples }

@@ -1,7 +1,8 @@
 //! Reads a control file from standard input and says what it comes to.
 #![tactic(auto)]
 
-ghost use Rattle.control_kernel.specs.Reports.{Answers};
+ghost use Rattle.stanzas.specs.Views.{Answers};
+ghost use Rattle.control_kernel.specs.Reports.{kernel_of};
 
 use control::ControlFile;
 use levels::{KernelSize, Pile};
@@ -22,7 +23,7 @@ fn read_input(rt: &(impl Input + AllocGlobal)) -> io::Result<Vec<u8>> {
 
 /// What the ground of a file comes to, with no reduction over it.
 fn kernel_size(heap: Global, text: Vec<u8>) -> Result<KernelSize, ReadError>
-    ensures { Answers text.items result }
+    ensures { Answers (λ k. k) result (kernel_of text.items) }
 {
     let pile = Pile::on(ControlFile::read(heap, text)?);
     Ok(pile.kernel_size())

@@ -1,5 +1,6 @@
 pub mod Tokens
 pub mod LineByLine
+pub mod Passing
 pub mod Sound
 pub mod CursorSteps
 pub mod Growing

@@ -1,9 +1,6 @@
 -- What is written out plainly in a value reads back: names, clauses and conflicts.
 use Rattle.std.proofs.Common.{◌≡◌, ℕ, suc, ◌+◌, ◌<◌, ◌≤◌, Bool, true, false, List, [], ◌∷◌, ◌++◌, map, length, drop, Ok, codes, Result, sym, refl, ap, ◌∙◌, one-add, arith}
 use Rattle.std.specs.List.{prefix_len, list_all}
-use Rattle.std.proofs.lemmas.List.Elements.{All-weaker}
-use Rattle.std.proofs.lemmas.List.Folds.{list_all-append}
-use Rattle.std.proofs.lemmas.List.Sums.{AllPass-from_list_all, list_all-from_AllPass}
 use Rattle.std.proofs.lemmas.List.{length_push, map_push, append-nil, append_assoc, take_at, drop_at}
 use Rattle.std.proofs.lemmas.Bool.{and_parts, and_from, lt-ltb, cond-true, false≢true}
 use Rattle.std.proofs.lemmas.Bool.Decides.{nat_tests}
@@ -13,9 +10,10 @@ use Rattle.texts.specs.declared.faults.Fault.{Fault}
 use Rattle.stanzas.specs.Tokens.{Mention, Token, Named, Misnamed, run, named, tokens}
 use Rattle.stanzas.specs.Notes.{NotesModel, owner_of, and_then, added}
 use Rattle.stanzas.specs.Values.{listed, related}
-use Rattle.stanzas.specs.Plain.{between, all_good, all_choices}
+use Rattle.stanzas.specs.Plain.{between, all_choices}
 use Rattle.stanzas.specs.declared.lines.Relation.{Relation}
 use Rattle.stanzas.specs.declared.lines.Relation.TheVariants.{Depends, Conflicts}
+use Rattle.stanzas.proofs.Passing.{all_weaker}
 use Rattle.stanzas.proofs.Tokens.{at_run, run_skips}
 
 -- ---- bytes that pass a test
@@ -25,14 +23,6 @@ module _ (t : ℕ → Bool) where
   pub all_lead : (s rest : List ℕ) → list_all t s ≡ true → prefix_len t rest ≡ 0 → prefix_len t (s ++ rest) ≡ length s
   all_lead [] rest h z = z
   all_lead (b ∷ s) rest h z = let p = and_parts _ _ h in cond-true _ _ _ p.0 ∙ one-add _ ∙ ap suc (all_lead s rest p.1 z)
-
-  -- of two strings
-  pub all_append : (s u : List ℕ) → list_all t s ≡ true → list_all t u ≡ true → list_all t (s ++ u) ≡ true
-  all_append s u h k = list_all-append t s u ∙ and_from _ _ h k
-
-  -- they pass a weaker test
-  all_weaker : (u : ℕ → Bool) → ((b : ℕ) → t b ≡ true → u b ≡ true) → (s : List ℕ) → list_all t s ≡ true → list_all u s ≡ true
-  all_weaker u f s h = list_all-from_AllPass u s (All-weaker _ _ f s (AllPass-from_list_all t s h))
 
 -- ---- good names
 
@@ -84,7 +74,7 @@ clause_added_lem m clause c is lt = cond-true _ _ _ (lt-ltb _ _ lt) ∙ ap (λ n
 module _ (e : ℕ) where
   -- a clause reads up to its last name, whatever follows it
   clause_reads : (m : NotesModel) (p : ℕ) (front : List Mention) (n : List ℕ) (ns : List (List ℕ)) (rest : List ℕ) (r : Result NotesModel Fault)
-      → all_good (n ∷ ns) ≡ true → prefix_len in_run rest ≡ 0
+      → list_all good (n ∷ ns) ≡ true → prefix_len in_run rest ≡ 0
       → ((q : ℕ) (all : List Mention) (last : Mention) → map (λ o. o.name) (all ++ last ∷ []) ≡ map (λ o. o.name) front ++ n ∷ ns → listed Depends e m all (Named last ∷ tokens false q rest) ≡ r)
       → listed Depends e m front (tokens false p (between (codes " | ") (n ∷ ns) ++ rest)) ≡ r
   clause_reads m p front n [] rest r h z k =
@@ -119,7 +109,7 @@ abbrev pub clashing : NotesModel → List (List ℕ) → NotesModel
 clashing m ns = record { names = m.names; needs = m.needs; clashes = m.clashes ++ map (λ name. record { owner = owner_of m; name = name }) ns; stanza = m.stanza }
 
 -- the conflicts of a value
-clashes_listed : (e : ℕ) (m : NotesModel) (p : ℕ) (n : List ℕ) (ns : List (List ℕ)) → all_good (n ∷ ns) ≡ true → listed Conflicts e m [] (tokens false p (between (codes ", ") (n ∷ ns))) ≡ Ok (clashing m (n ∷ ns))
+clashes_listed : (e : ℕ) (m : NotesModel) (p : ℕ) (n : List ℕ) (ns : List (List ℕ)) → list_all good (n ∷ ns) ≡ true → listed Conflicts e m [] (tokens false p (between (codes ", ") (n ∷ ns))) ≡ Ok (clashing m (n ∷ ns))
 clashes_listed e m p n [] h = ap (listed Conflicts e m []) (name_last p n (and_parts _ _ h).0)
 clashes_listed e m p n (o ∷ ns) h =
     let g = and_parts _ _ h in
@@ -142,5 +132,5 @@ module _ (e : ℕ) (m : NotesModel) (p : ℕ) where
   needs_read c cs h room = related_listed Depends e m _ (tokens false p (between (codes ", ") (map (between (codes " | ")) (c ∷ cs)))) (clauses_listed e m p c cs h room)
 
   -- the value of Conflicts
-  pub clashes_read : (n : List ℕ) (ns : List (List ℕ)) → all_good (n ∷ ns) ≡ true → related Conflicts e m (tokens false p (between (codes ", ") (n ∷ ns))) ≡ Ok (clashing m (n ∷ ns))
+  pub clashes_read : (n : List ℕ) (ns : List (List ℕ)) → list_all good (n ∷ ns) ≡ true → related Conflicts e m (tokens false p (between (codes ", ") (n ∷ ns))) ≡ Ok (clashing m (n ∷ ns))
   clashes_read n ns h = related_listed Conflicts e m _ (tokens false p (between (codes ", ") (n ∷ ns))) (clashes_listed e m p n ns h)

@@ -16,10 +16,11 @@ use Rattle.stanzas.specs.Notes.{NotesModel, NeedModel, ClashModel, and_then}
 use Rattle.stanzas.specs.Values.{single, alone}
 use Rattle.stanzas.specs.Lines.{lines, heading_of}
 use Rattle.stanzas.specs.Files.{step, stanzas}
-use Rattle.stanzas.specs.Plain.{Entry, between, field_line, written, written_all, needs_from, clashes_from, all_good, all_choices, good_entry, good_entries, Distinct, ReadsBack}
+use Rattle.stanzas.specs.Plain.{Entry, between, field_line, written, written_all, needs_from, clashes_from, all_choices, good_entry, good_entries, Distinct, ReadsBack}
 use Rattle.stanzas.specs.declared.lines.Stanza.{Stanza}
 use Rattle.stanzas.proofs.LineByLine.{line_first}
-use Rattle.stanzas.proofs.PlainValues.{all_lead, all_append, good_stays, name_last, needing, clashing, needs_read, clashes_read}
+use Rattle.stanzas.proofs.Passing.{all_append}
+use Rattle.stanzas.proofs.PlainValues.{all_lead, good_stays, name_last, needing, clashing, needs_read, clashes_read}
 
 -- ---- lines
 
@@ -51,7 +52,7 @@ between_stays separator x [] h k = k.0
 between_stays separator x (y ∷ xs) h k = all_append in_line (x ++ separator) _ (all_append in_line x separator k.0 h) (between_stays separator y xs h k.1)
 
 -- good names do, and clauses of them
-names_stay : (ns : List (List ℕ)) → all_good ns ≡ true → AllByRecursion Stays ns
+names_stay : (ns : List (List ℕ)) → list_all good ns ≡ true → AllByRecursion Stays ns
 names_stay [] h = tt
 names_stay (n ∷ ns) h = let g = and_parts _ _ h in (good_stays n g.0, names_stay ns g.1)
 
@@ -93,7 +94,7 @@ module _ (ns : List (List ℕ)) (ds : List NeedModel) (ks : List ClashModel) (p 
       ∙ line_done before _ p text rest r (between_stays (codes ", ") _ _ refl (clauses_stay (c ∷ cs) h)) (needs_read (p + length text) (said ns ds ks (after true false)) (p + 8 + 1) c cs h room) (λ q. k q true)
 
   -- there is a Conflicts line, or there are no conflicts
-  conflicts_reads : (d : Bool) (cs : List (List ℕ)) → all_good cs ≡ true
+  conflicts_reads : (d : Bool) (cs : List (List ℕ)) → list_all good cs ≡ true
       → ((q : ℕ) (c : Bool) → stanzas (clashing (said ns ds ks (after d c)) cs) (lines false q rest) ≡ r)
       → stanzas (said ns ds ks (after d false)) (lines false p (field_line (codes "Conflicts: ") cs ++ rest)) ≡ r
   conflicts_reads d [] h k = ap (λ l. stanzas (said ns ds l (after d false)) (lines false p rest)) (sym (append-nil ks)) ∙ k p false

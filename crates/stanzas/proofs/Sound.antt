@@ -1,7 +1,8 @@
 -- Everything that is read is sound: kept from line to line.
 use Rattle.std.proofs.Common.{◌≡◌, ℕ, ◌+◌, ◌<◌, true, false, ltb, List, [], ◌∷◌, ◌++◌, map, length, is_some, Some, None, Option, Ok, Err, Result, sym, refl, subst, arith}
+use Rattle.std.specs.List.{list_all}
 use Rattle.std.proofs.lemmas.List.{length_push}
-use Rattle.std.proofs.lemmas.Bool.{and_parts, and_from, cond_both, lt-ltb, ltb-true, true≢false}
+use Rattle.std.proofs.lemmas.Bool.{and_from, cond_both, lt-ltb, ltb-true, true≢false}
 use Rattle.sets.specs.Limit.{limit}
 use Rattle.sheets.specs.Limits.{max_clauses}
 use Rattle.texts.specs.Spans.{look_up}
@@ -11,12 +12,13 @@ use Rattle.stanzas.specs.Notes.{NeedModel, ClashModel, NotesModel, start, with_s
 use Rattle.stanzas.specs.Values.{bars, alone, single, listed, related}
 use Rattle.stanzas.specs.Lines.{LineModel, lines, heading_of, value_of, end_of}
 use Rattle.stanzas.specs.Files.{has, with, step_in, step, stanzas, max_bytes, reading}
-use Rattle.stanzas.specs.Sound.{needs_owned, clashes_owned, Sound}
+use Rattle.stanzas.specs.Sound.{Sound}
 use Rattle.stanzas.specs.declared.lines.Heading.{Heading}
 use Rattle.stanzas.specs.declared.lines.Heading.TheVariants.{Empty, Continued, Package, Related, Skipped, Malformed}
 use Rattle.stanzas.specs.declared.lines.Relation.{Relation}
 use Rattle.stanzas.specs.declared.lines.Relation.TheVariants.{Depends, Conflicts}
 use Rattle.stanzas.specs.declared.lines.Stanza.{Stanza}
+use Rattle.stanzas.proofs.Passing.{all_append, all_weaker}
 
 -- a stanza that has its Package has a component
 record Read (n : NotesModel) : Type 0 where
@@ -46,29 +48,13 @@ weaker P Q (Err e) f p = tt
 
 -- ---- the owners
 
-needs_push : (size : ℕ) (ns : List NeedModel) (n : NeedModel) → needs_owned size ns ≡ true → n.owner < size → needs_owned size (ns ++ n ∷ []) ≡ true
-needs_push size [] n h lt = and_from _ _ (lt-ltb n.owner size lt) refl
-needs_push size (m ∷ ns) n h lt = let p = and_parts (ltb m.owner size) (needs_owned size ns) h in and_from _ _ p.0 (needs_push size ns n p.1 lt)
+-- they are components still when there is one more
+owners_more : {X : Type 0} (owner : X → ℕ) (size : ℕ) (xs : List X) → list_all (λ x. ltb (owner x) size) xs ≡ true → list_all (λ x. ltb (owner x) (size + 1)) xs ≡ true
+owners_more owner size xs h = all_weaker (λ x. ltb (owner x) size) (λ x. ltb (owner x) (size + 1)) (λ x t. lt-ltb (owner x) (size + 1) (omega (arith, ltb-true (owner x) size t))) xs h
 
-needs_more : (size : ℕ) (ns : List NeedModel) → needs_owned size ns ≡ true → needs_owned (size + 1) ns ≡ true
-needs_more size [] h = refl
-needs_more size (m ∷ ns) h =
-    let p = and_parts (ltb m.owner size) (needs_owned size ns) h in
-    and_from _ _ (lt-ltb m.owner (size + 1) (omega (arith, ltb-true m.owner size p.0))) (needs_more size ns p.1)
-
-clashes_by : (size owner : ℕ) (ms : List Mention) → owner < size → clashes_owned size (map (λ m. record { owner = owner; name = m.name }) ms) ≡ true
+clashes_by : (size owner : ℕ) (ms : List Mention) → owner < size → list_all (λ (c : ClashModel). ltb c.owner size) (map (λ m. record { owner = owner; name = m.name }) ms) ≡ true
 clashes_by size owner [] lt = refl
 clashes_by size owner (m ∷ ms) lt = and_from _ _ (lt-ltb owner size lt) (clashes_by size owner ms lt)
-
-clashes_append : (size : ℕ) (cs ds : List ClashModel) → clashes_owned size cs ≡ true → clashes_owned size ds ≡ true → clashes_owned size (cs ++ ds) ≡ true
-clashes_append size [] ds h g = g
-clashes_append size (c ∷ cs) ds h g = let p = and_parts (ltb c.owner size) (clashes_owned size cs) h in and_from _ _ p.0 (clashes_append size cs ds p.1 g)
-
-clashes_more : (size : ℕ) (cs : List ClashModel) → clashes_owned size cs ≡ true → clashes_owned (size + 1) cs ≡ true
-clashes_more size [] h = refl
-clashes_more size (c ∷ cs) h =
-    let p = and_parts (ltb c.owner size) (clashes_owned size cs) h in
-    and_from _ _ (lt-ltb c.owner (size + 1) (omega (arith, ltb-true c.owner size p.0))) (clashes_more size cs p.1)
 
 -- ---- one more name, clause or conflict
 
@@ -82,8 +68,8 @@ named n x h lt =
       sound = record {
         few = omega (arith, more);
         room = h.room;
-        needs_have_owners = subst (λ (k : ℕ). needs_owned k n.needs ≡ true) (sym more) (needs_more (length n.names) n.needs h.needs_have_owners);
-        clashes_have_owners = subst (λ (k : ℕ). clashes_owned k n.clashes ≡ true) (sym more) (clashes_more (length n.names) n.clashes h.clashes_have_owners);
+        needs_have_owners = subst (λ (k : ℕ). list_all (λ (d : NeedModel). ltb d.owner k) n.needs ≡ true) (sym more) (owners_more (λ (d : NeedModel). d.owner) (length n.names) n.needs h.needs_have_owners);
+        clashes_have_owners = subst (λ (k : ℕ). list_all (λ (c : ClashModel). ltb c.owner k) n.clashes ≡ true) (sym more) (owners_more (λ (c : ClashModel). c.owner) (length n.names) n.clashes h.clashes_have_owners);
       };
       some = omega (arith, more);
     }
@@ -100,7 +86,7 @@ both_added Depends n ms i =
       sound = record {
         few = i.sound.few;
         room = omega (arith, ltb-true (length n.needs) max_clauses lt, length_push n.needs (record { owner = owner_of n; names = map (λ m. m.name) ms }));
-        needs_have_owners = needs_push (length n.names) n.needs (record { owner = owner_of n; names = map (λ m. m.name) ms }) i.sound.needs_have_owners (omega (arith, i.some));
+        needs_have_owners = all_append (λ (d : NeedModel). ltb d.owner (length n.names)) n.needs (record { owner = owner_of n; names = map (λ m. m.name) ms } ∷ []) i.sound.needs_have_owners (and_from _ _ (lt-ltb (owner_of n) (length n.names) (omega (arith, i.some))) refl);
         clashes_have_owners = i.sound.clashes_have_owners;
       };
       some = i.some;
@@ -111,7 +97,7 @@ both_added Conflicts n ms i = record {
     few = i.sound.few;
     room = i.sound.room;
     needs_have_owners = i.sound.needs_have_owners;
-    clashes_have_owners = clashes_append (length n.names) n.clashes _ i.sound.clashes_have_owners (clashes_by (length n.names) (owner_of n) ms (omega (arith, i.some)));
+    clashes_have_owners = all_append (λ (c : ClashModel). ltb c.owner (length n.names)) n.clashes _ i.sound.clashes_have_owners (clashes_by (length n.names) (owner_of n) ms (omega (arith, i.some)));
   };
   some = i.some;
 }

@@ -11,8 +11,8 @@ use Rattle.stanzas.specs.Tokens.{Named}
 use Rattle.stanzas.specs.Spans.{IsFront, mention}
 use Rattle.stanzas.specs.Notes.{NotesModel, and_then, name_added, added}
 use Rattle.stanzas.specs.Values.{alone, single, listed, related}
-use Rattle.stanzas.specs.Cursors.{rest, end, ReadsName, onward, NameRead, after, SeparatorRead, Begun}
-use Rattle.stanzas.specs.Views.{Stops, Leaves}
+use Rattle.stanzas.specs.Cursors.{rest, end, ReadsName, onward, NameRead, ListFault, after, SeparatorRead, Begun}
+use Rattle.stanzas.specs.Views.{Stops, Answers, Leaves, notes_of}
 use Rattle.stanzas.specs.declared.cursor.Cursor.{Cursor}
 use Rattle.stanzas.specs.declared.cursor.Separator.{Separator}
 use Rattle.stanzas.specs.declared.cursor.Separator.TheVariants as separator
@@ -21,15 +21,13 @@ use Rattle.stanzas.specs.declared.notes.Notes.{Notes}
 
 -- ---- answers
 
-module _ (r : Result (Unit {0}) (Failure Fault)) (want : Result NotesModel Fault) (a b : Notes) where
-  -- an error that was handed on
-  pub leaves_stopped : (y z : Failure Fault) → r ≡ Err y → y ≡ z → Stops z want → Leaves r want a b
-  leaves_stopped y z e is h = subst (λ q. Leaves q want a b) (sym (e ∙ ap Err is)) h
+-- an error that was handed on
+pub stopped : {A X : Type 0} (view : A → X) (r : Result A (Failure Fault)) (y z : Failure Fault) (want : Result X Fault) → r ≡ Err y → y ≡ z → Stops z want → Answers view r want
+stopped view r y z want e is h = subst (λ q. Answers view q want) (sym (e ∙ ap Err is)) h
 
 -- a call at notes of the same text may say otherwise what is due
 pub leaves_from : (r : Result (Unit {0}) (Failure Fault)) (want other : Result NotesModel Fault) (a o b : Notes) → want ≡ other → o.text.now ≡ a.text.now → Leaves r other o b → Leaves r want a b
-leaves_from (Ok u) want other a o b e t h = (e ∙ h.0, h.1 ∙ t)
-leaves_from (Err x) want other a o b e t h = subst (Stops x) (sym e) h
+leaves_from r want other a o b e t h = (subst (Answers (λ u. notes_of b) r) (sym e) h.0, h.1 ∙ t)
 
 pub stops_then : (s : Failure Fault) (want due : Result NotesModel Fault) (next : NotesModel → Result NotesModel Fault) → want ≡ and_then due next → Stops s due → Stops s want
 stops_then (Refused x) want due next e h = e ∙ ap (λ q. and_then q next) h
@@ -60,7 +58,7 @@ module _ (r : Relation) where
 
   module _ (text : List ℕ) (n : NotesModel) (clause longer : List Span) (s : Span) (q : Result Separator Fault) (a b d : Cursor) where
     -- a name and what stands after it
-    pub turned : IsFront a.text.now text → NameRead r (Ok s) a b → SeparatorRead r q b d → longer ≡ clause ++ s ∷ [] → onward r a n (map (mention text) clause) ≡ and_then q (after r d n (map (mention text) longer))
+    pub turned : IsFront a.text.now text → NameRead (ListFault r) (Ok s) a b → SeparatorRead r q b d → longer ≡ clause ++ s ∷ [] → onward r a n (map (mention text) clause) ≡ and_then q (after r d n (map (mention text) longer))
     turned is name stop more =
         let front = map (mention text) clause in
         ap (listed r (end a) n front) (name.reads.0 ∙ ap (λ m. Named m ∷ rest b) (front_mention a.text.now text s is name.reads.1))

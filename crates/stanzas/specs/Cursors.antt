@@ -48,14 +48,18 @@ pub record Took (r : Option Lexeme) (a b : Cursor) : Type 0 where
 abbrev pub ReadsName : Span → Cursor → Cursor → Type 0
 ReadsName s a b = (rest a ≡ Named (mention a.text.now s) ∷ rest b) × (s.end ≤ length a.text.now)
 
-abbrev pub OnlyReads : Result Span Fault → Cursor → Cursor → Type 0
-OnlyReads (Ok s) a b = ReadsName s a b
-OnlyReads (Err x) a b = (n : NotesModel) → single (end a) n (rest a) ≡ Err x
+abbrev pub NameReads : (Cursor → Fault → Type 0) → Result Span Fault → Cursor → Cursor → Type 0
+NameReads Due (Ok s) a b = ReadsName s a b
+NameReads Due (Err x) a b = Due a x
 
--- q is the name with which the value of a Package begins, or the fault that the value has
-pub record OnlyName (q : Result Span Fault) (a b : Cursor) : Type 0 where
+-- q is the name with which a begins, or a fault that is due there
+pub record NameRead (Due : Cursor → Fault → Type 0) (q : Result Span Fault) (a b : Cursor) : Type 0 where
   pub text : b.text.now ≡ a.text.now
-  pub reads : OnlyReads q a b
+  pub reads : NameReads Due q a b
+
+-- the value of a Package, which begins at a, has the fault x
+abbrev pub PackageFault : Cursor → Fault → Type 0
+PackageFault a x = (n : NotesModel) → single (end a) n (rest a) ≡ Err x
 
 -- q says whether nothing follows that name
 abbrev pub Nothing : Result (Unit {0}) Fault → List Token → Type 0
@@ -66,14 +70,9 @@ Nothing (Err x) ts = (n : NotesModel) → alone ts n ≡ Err x
 abbrev pub onward : Relation → Cursor → NotesModel → List Mention → Result NotesModel Fault
 onward r c n front = listed r (end c) n front (rest c)
 
-abbrev pub NameReads : Relation → Result Span Fault → Cursor → Cursor → Type 0
-NameReads r (Ok s) a b = ReadsName s a b
-NameReads r (Err x) a b = (n : NotesModel) (front : List Mention) → onward r a n front ≡ Err x
-
--- q is the name that is due at a, or the fault that the value has
-pub record NameRead (r : Relation) (q : Result Span Fault) (a b : Cursor) : Type 0 where
-  pub text : b.text.now ≡ a.text.now
-  pub reads : NameReads r q a b
+-- the value of a list of names, where one is due at a, has the fault x
+abbrev pub ListFault : Relation → Cursor → Fault → Type 0
+ListFault r a x = (n : NotesModel) (front : List Mention) → onward r a n front ≡ Err x
 
 -- what the value says after a name, by what stands there; clause has the names up to that one
 abbrev pub after : Relation → Cursor → NotesModel → List Mention → Separator → Result NotesModel Fault

@@ -40,27 +40,27 @@ abbrev pub skips : Stanza → Stanza
 skips s = record { depends = s.depends; conflicts = s.conflicts; skipping = true }
 
 -- what a line adds between two stanzas
-abbrev pub outside : NotesModel → LineModel → Heading → Result NotesModel Fault
-outside n l Empty = Ok (with_stanza n None)
-outside n l Continued = Err (malformed l.place)
-outside n l Package = single (end_of l) n (value_of l)
-outside n l (Related r) = Err (stray l.place)
-outside n l Skipped = Err (stray l.place)
-outside n l Malformed = Err (malformed l.place)
+abbrev pub between_stanzas : NotesModel → LineModel → Heading → Result NotesModel Fault
+between_stanzas n l Empty = Ok (with_stanza n None)
+between_stanzas n l Continued = Err (malformed l.place)
+between_stanzas n l Package = single (end_of l) n (value_of l)
+between_stanzas n l (Related r) = Err (stray l.place)
+between_stanzas n l Skipped = Err (stray l.place)
+between_stanzas n l Malformed = Err (malformed l.place)
 
 -- what a line adds in a stanza
-abbrev pub within : Stanza → NotesModel → LineModel → Heading → Result NotesModel Fault
-within s n l Empty = Ok (with_stanza n None)
-within s n l Continued = cond s.skipping (Ok n) (Err (malformed l.place))
-within s n l Package = Err (stray l.place)
-within s n l (Related r) = cond (has s r) (Err (stray l.place)) (related r (end_of l) (with_stanza n (Some (with s r))) (value_of l))
-within s n l Skipped = Ok (with_stanza n (Some (skips s)))
-within s n l Malformed = Err (malformed l.place)
+abbrev pub in_stanza : Stanza → NotesModel → LineModel → Heading → Result NotesModel Fault
+in_stanza s n l Empty = Ok (with_stanza n None)
+in_stanza s n l Continued = cond s.skipping (Ok n) (Err (malformed l.place))
+in_stanza s n l Package = Err (stray l.place)
+in_stanza s n l (Related r) = cond (has s r) (Err (stray l.place)) (related r (end_of l) (with_stanza n (Some (with s r))) (value_of l))
+in_stanza s n l Skipped = Ok (with_stanza n (Some (skips s)))
+in_stanza s n l Malformed = Err (malformed l.place)
 
 -- what a line adds to what was said before it, by the stanza at hand
 abbrev pub step_in : Option Stanza → NotesModel → LineModel → Heading → Result NotesModel Fault
-step_in None = outside
-step_in (Some s) = within s
+step_in None = between_stanzas
+step_in (Some s) = in_stanza s
 
 abbrev pub step : NotesModel → LineModel → Heading → Result NotesModel Fault
 step n = step_in n.stanza n

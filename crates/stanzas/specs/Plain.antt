@@ -1,5 +1,6 @@
 -- Stanzas as their author means them, written out plainly, and the law that reading gives them back.
 use Rattle.std.specs.Prelude.{◌≡◌, ℕ, suc, ◌≤◌, Bool, true, false, ◌&&◌, List, [], ◌∷◌, ◌++◌, map, length, is_some, None, Ok, codes}
+use Rattle.std.specs.List.{list_all, flat_map}
 use Rattle.sets.specs.Limit.{limit}
 use Rattle.sheets.specs.Limits.{max_clauses}
 use Rattle.texts.specs.Bytes.{good}
@@ -35,8 +36,7 @@ written e =
     ++ codes "\n"
 
 abbrev pub written_all : List Entry → List ℕ
-written_all [] = []
-written_all (e ∷ es) = written e ++ written_all es
+written_all = flat_map written
 
 -- ---- what they say
 
@@ -55,22 +55,17 @@ told es = record { names = map (λ e. e.name) es; needs = needs_from 0 es; clash
 
 -- ---- within the rules
 
-abbrev pub all_good : List (List ℕ) → Bool
-all_good [] = true
-all_good (n ∷ ns) = good n && all_good ns
-
 -- each clause has a name, and all its names are good
 abbrev pub all_choices : List (List (List ℕ)) → Bool
 all_choices [] = true
 all_choices ([] ∷ cs) = false
-all_choices ((n ∷ ns) ∷ cs) = all_good (n ∷ ns) && all_choices cs
+all_choices ((n ∷ ns) ∷ cs) = list_all good (n ∷ ns) && all_choices cs
 
 abbrev pub good_entry : Entry → Bool
-good_entry e = good e.name && all_choices e.needs && all_good e.clashes
+good_entry e = good e.name && all_choices e.needs && list_all good e.clashes
 
 abbrev pub good_entries : List Entry → Bool
-good_entries [] = true
-good_entries (e ∷ es) = good_entry e && good_entries es
+good_entries = list_all good_entry
 
 -- no name stands twice
 abbrev pub Distinct : List (List ℕ) → Type 0

@@ -20,13 +20,13 @@ abbrev pub line_of : Line → LineModel
 line_of l = record { place = l.start; text = drop l.start l.text.now }
 
 -- the lines that are still to come
-abbrev pub left : Lines → List LineModel
-left ls = lines false ls.at (drop ls.at ls.text.now)
+abbrev pub lines_left : Lines → List LineModel
+lines_left ls = lines false ls.at (drop ls.at ls.text.now)
 
 -- r is the first of the lines that a has left, and b has the others
 abbrev pub GivesLine : Lines → Option Line → Lines → Type 0
-GivesLine a None b = left a ≡ []
-GivesLine a (Some l) b = (left a ≡ line_of l ∷ left b) × IsFront l.text.now a.text.now × (b.text.now ≡ a.text.now)
+GivesLine a None b = lines_left a ≡ []
+GivesLine a (Some l) b = (lines_left a ≡ line_of l ∷ lines_left b) × IsFront l.text.now a.text.now × (b.text.now ≡ a.text.now)
 
 -- ---- notes
 
@@ -56,12 +56,11 @@ abbrev pub Stops : {X : Type 0} → Failure Fault → Result X Fault → Type 0
 Stops (Refused x) want = want ≡ Err x
 Stops OutOfMemory want = Unit {0}
 
--- a call that changes notes does what is due and leaves the notes b, of the same text, or it stops
-abbrev pub Leaves : Result (Unit {0}) (Failure Fault) → Result NotesModel Fault → Notes → Notes → Type 0
-Leaves (Ok u) want a b = (want ≡ Ok (notes_of b)) × (b.text.now ≡ a.text.now)
-Leaves (Err e) want a b = Stops e want
+-- a call gives what is due, as view sees it, or it stops
+abbrev pub Answers : {A X : Type 0} → (A → X) → Result A (Failure Fault) → Result X Fault → Type 0
+Answers view (Ok a) want = want ≡ Ok (view a)
+Answers view (Err e) want = Stops e want
 
--- a call that makes notes from a text gives those that are due, or it stops
-abbrev pub Gives : List ℕ → Result Notes (Failure Fault) → Result NotesModel Fault → Type 0
-Gives text (Ok n) want = (want ≡ Ok (notes_of n)) × (n.text.now ≡ text)
-Gives text (Err e) want = Stops e want
+-- a call that changes notes does what is due and leaves the notes b, or it stops; the text is the same
+abbrev pub Leaves : Result (Unit {0}) (Failure Fault) → Result NotesModel Fault → Notes → Notes → Type 0
+Leaves r want a b = Answers (λ u. notes_of b) r want × (b.text.now ≡ a.text.now)

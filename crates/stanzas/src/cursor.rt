@@ -1,7 +1,7 @@
 //! Goes through the value of a field, token by token.
 ghost use Rattle.std.specs.Prelude.{◌≡◌, []};
 ghost use Rattle.stanzas.specs.Values.{no_name, misplaced, bars};
-ghost use Rattle.stanzas.specs.Cursors.{rest, Took, OnlyName, Nothing, NameRead, SeparatorRead, Begun, token_of};
+ghost use Rattle.stanzas.specs.Cursors.{rest, Took, NameRead, PackageFault, ListFault, Nothing, SeparatorRead, Begun, token_of};
 ghost use Rattle.stanzas.specs.Tokens.{place_of};
 
 use crate::lines::Relation;
@@ -105,7 +105,7 @@ impl Cursor<'_> {
 
     /// Reads the name with which the value of a `Package` begins.
     pub(crate) fn only_name(&mut self) -> Result<Span, Fault>
-        ensures { OnlyName result self.old self.new }
+        ensures { NameRead PackageFault result self.old self.new }
     {
         match self.token() {
             Some(Lexeme::Name(span)) => Ok(span),
@@ -127,7 +127,7 @@ impl Cursor<'_> {
 
     /// Reads the name that is due in a list of names.
     pub(crate) fn name(&mut self, relation: Relation) -> Result<Span, Fault>
-        ensures { NameRead relation result self.old self.new }
+        ensures { NameRead (ListFault relation) result self.old self.new }
     {
         match self.token() {
             Some(Lexeme::Name(span)) => Ok(span),

@@ -21,14 +21,14 @@ pub fn is_in_line(byte: u8) -> bool
 pub fn is_letter(byte: u8) -> bool
     ensures { result ≡ letter byte }
 {
-    byte.is_ascii_lowercase() || byte.is_ascii_uppercase()
+    byte.is_ascii_alphabetic()
 }
 
 /// What a label consists of.
 pub fn is_in_label(byte: u8) -> bool
     ensures { result ≡ in_label byte }
 {
-    is_letter(byte) || byte.is_ascii_digit() || byte == b'-'
+    byte.is_ascii_alphanumeric() || byte == b'-'
 }
 
 /// What stands between blanks, commas and bars.

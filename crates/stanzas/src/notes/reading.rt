@@ -5,7 +5,7 @@ ghost use Rattle.stanzas.specs.Plain.{ReadsBack};
 ghost use Rattle.stanzas.specs.Sound.{Sound};
 ghost use Rattle.stanzas.specs.Spans.{IsFront};
 ghost use Rattle.stanzas.specs.Lines.{heading_of};
-ghost use Rattle.stanzas.specs.Views.{Gives, Leaves, notes_of, line_of};
+ghost use Rattle.stanzas.specs.Views.{Answers, Leaves, notes_of, line_of};
 
 use super::Notes;
 use crate::lines::{Heading, Line, Lines, Stanza};
@@ -19,7 +19,8 @@ impl<'a> Notes<'a> {
 
     /// Reads a file, up to its first fault.
     pub fn read(heap: Global, text: &'a [u8]) -> Result<Notes<'a>, ReadError>
-        ensures value { Gives text.now result (reading text.now) }
+        ensures value { Answers notes_of result (reading text.now) }
+        ensures text { IfOk result (λ n. n.text.now ≡ text.now) }
         ensures sound { IfOk result (λ n. Sound (notes_of n)) }
         ensures plain { ReadsBack }
     {

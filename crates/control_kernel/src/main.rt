@@ -10,7 +10,7 @@ use stanzas::Notes;
 use std::alloc::Global;
 use std::io;
 use std::io::Read;
-use texts::ReadError;
+use texts::{ReadError, RefusedLine};
 
 /// Standard input to its end, or one byte more than a file may have.
 fn read_input(rt: &(impl Input + AllocGlobal)) -> io::Result<Vec<u8>> {
@@ -32,7 +32,7 @@ fn kernel_size(heap: Global, text: Vec<u8>) -> Result<KernelSize, ReadError>
 fn run(rt: &(impl Input + Print + AllocGlobal)) -> anyhow::Result<()> {
     match kernel_size(rt.alloc(), read_input(rt)?) {
         Ok(size) => println!(rt; "{size}")?,
-        Err(ReadError::Refused(fault)) => println!(rt; "(refused {fault})")?,
+        Err(ReadError::Refused(fault)) => println!(rt; "{}", RefusedLine(fault))?,
         Err(error) => return Err(error.into()),
     }
     Ok(())

@@ -12,7 +12,7 @@ use levels::Level;
 use refusals::Refusal;
 use sets::ComponentSet;
 use std::io;
-use texts::ReadError;
+use texts::{ReadError, RefusedLine};
 
 /// How many names and clauses of a ground are printed: the last ones.
 const SHOWN: usize = 8;
@@ -80,7 +80,7 @@ fn trial(rt: &(impl Print + AllocGlobal), number: usize, text: Vec<u8>) -> io::R
     print!(rt; "{number}: ")?;
     match ControlFile::read(rt.alloc(), text) {
         Ok(file) => print_ground(rt, &file),
-        Err(ReadError::Refused(fault)) => println!(rt; "(refused {fault})"),
+        Err(ReadError::Refused(fault)) => println!(rt; "{}", RefusedLine(fault)),
         Err(ReadError::OutOfMemory) => rt.println("out of memory"),
     }
 }

@@ -4,6 +4,7 @@ use Rattle.std.specs.Fmt.{decimal}
 use Rattle.refusals.specs.Refusals.{number_of, word_of}
 use Rattle.refusals.specs.declared.Refusal.{Refusal}
 use Rattle.texts.specs.declared.faults.Fault.{Fault}
+use Rattle.texts.specs.declared.faults.RefusedLine.{RefusedLine}
 use Rattle.texts.specs.declared.faults.Layer.{Layer}
 use Rattle.texts.specs.declared.faults.Layer.TheVariants.{Name, Field, File}
 
@@ -20,3 +21,7 @@ layer_word File = codes "file"
 -- number, word, layer and place of a fault, with a space between two of them
 abbrev pub fault_line : Fault → List ℕ
 fault_line f = decimal (number_of f.refusal) ++ codes " " ++ word_of f.refusal ++ codes " " ++ layer_word f.layer ++ codes " " ++ decimal f.place
+
+-- the line (refused NUMBER WORD LAYER PLACE)
+abbrev pub refused_line : RefusedLine → List ℕ
+refused_line r = codes "(refused " ++ fault_line r.0 ++ codes ")"

@@ -1,6 +1,6 @@
 //! What is wrong with a file.
 ghost use Rattle.std.specs.Prelude.{◌≡◌, Some};
-ghost use Rattle.texts.specs.Faults.{fault, layer_word, fault_line};
+ghost use Rattle.texts.specs.Faults.{fault, layer_word, fault_line, refused_line};
 ghost use Rattle.refusals.specs.declared.Failure.TheVariants.{Refused};
 
 use refusals::{Failure, Refusal};
@@ -76,6 +76,19 @@ impl fmt::Display for Fault {
 }
 
 impl Error for Fault {}
+
+/// The line `(refused NUMBER WORD LAYER PLACE)` of a fault.
+#[derive(Clone, Copy, PartialEq, Eq, Hash, Debug)]
+pub struct RefusedLine(pub Fault);
+
+// By hand: a derived `Display` states no output.
+impl fmt::Display for RefusedLine {
+    ghost output = { λ x. Some (refused_line x) };
+
+    fn fmt<W: fmt::Write>(&self, f: &mut fmt::Formatter<W>) -> fmt::Result {
+        write!(f, "(refused {})", self.0)
+    }
+}
 
 /// Why a file was not read: a fault in it, or want of memory.
 pub type ReadError = Failure<Fault>;

@@ -5,5 +5,5 @@ pub mod bytes;
 pub mod faults;
 pub mod spans;
 
-pub use faults::{Fault, Layer, ReadError};
+pub use faults::{Fault, Layer, ReadError, RefusedLine};
 pub use spans::{Span, find};

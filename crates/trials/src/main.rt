@@ -1,7 +1,7 @@
 //! Runs the calls of sets, sheets and catalogues on small cases and at their limits, and prints what they answer.
 #![tactic(auto)]
 
-use catalogue::{ClosedCatalogue, OpenCatalogue};
+use catalogue::OpenCatalogue;
 use levels::Level;
 use refusals::{Failure, Refusal};
 use sets::ComponentSet;
@@ -30,17 +30,14 @@ fn print_sets(rt: &impl Print) -> io::Result<()> {
     )
 }
 
-/// 0 needs 1 and 1 needs 0; with a third component, 1 also clashes with 2. `level_trials` has the larger one too: a library
-/// for these few lines would be no plainer.
-fn ring(heap: Global, components: usize) -> Result<ClosedCatalogue, Failure> {
+/// 0 needs 1 and 1 needs 0, among so many components. `level_trials` has such a ring too: a library for these few lines would
+/// be no plainer.
+fn ring(heap: Global, components: usize) -> Result<OpenCatalogue, Failure> {
     let mut catalogue = OpenCatalogue::new(heap)?;
     catalogue.add_components(components)?;
     catalogue.add_need(0, ComponentSet::from([1]))?;
     catalogue.add_need(1, ComponentSet::from([0]))?;
-    if components > 2 {
-        catalogue.add_clash(1, 2)?;
-    }
-    Ok(catalogue.close())
+    Ok(catalogue)
 }
 
 /// Health and support of the two rings.
@@ -106,8 +103,10 @@ fn print_refusals(rt: &(impl Print + AllocGlobal)) -> anyhow::Result<()> {
 
 fn run(rt: &(impl Print + AllocGlobal)) -> anyhow::Result<()> {
     print_sets(rt)?;
-    print_health(rt, ring(rt.alloc(), 2)?.sheet())?;
-    print_health(rt, ring(rt.alloc(), 3)?.sheet())?;
+    print_health(rt, ring(rt.alloc(), 2)?.close().sheet())?;
+    let mut opposed = ring(rt.alloc(), 3)?;
+    opposed.add_clash(1, 2)?;
+    print_health(rt, opposed.close().sheet())?;
     print_refusals(rt)?;
     println!(rt;
         "{} {}",

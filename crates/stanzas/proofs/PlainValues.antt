@@ -2,7 +2,7 @@
 use Rattle.std.proofs.Common.{◌≡◌, ℕ, suc, ◌+◌, ◌<◌, ◌≤◌, Bool, true, false, List, [], ◌∷◌, ◌++◌, map, length, drop, Ok, codes, Result, sym, refl, ap, ◌∙◌, one-add, arith}
 use Rattle.std.specs.List.{prefix_len, list_all}
 use Rattle.std.proofs.lemmas.List.{length_push, map_push, append-nil, append_assoc, take_at, drop_at}
-use Rattle.std.proofs.lemmas.Bool.{and_parts, and_from, lt-ltb, cond-true, false≢true}
+use Rattle.std.proofs.lemmas.Bool.{and_parts, lt-ltb, cond-true, false≢true}
 use Rattle.std.proofs.lemmas.Bool.Decides.{nat_tests}
 use Rattle.sheets.specs.Limits.{max_clauses}
 use Rattle.texts.specs.Bytes.{in_line, in_run, in_name, good}

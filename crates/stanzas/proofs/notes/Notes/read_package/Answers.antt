@@ -9,17 +9,21 @@ use Rattle.stanzas.proofs.notes.Notes.read_package.Goals as goal
 
 pub returns-in_err-add_name : goal.returns-in_err-add_name
 returns-in_err-add_name c =
-    let p = err_from_is_err_and c.from_residual-in_err-add_name.result c.from_residual-in_err-add_name.ensures.1 in
-    (stopped _ _ p.0 _ _ p.1 p.2
-    (stops_then _ _ _ (alone (rest c.only_name.new.self)) (named_first c.args.self.now.text.now (notes_of c.args.self.now) c.in_ok-name.name c.args.cursor c.only_name.new.self c.requires c.in_ok-name.ensures.reads) c.in_err-add_name.ensures.0), c.in_err-add_name.ensures.1)
+    let p = err_from_is_err_and c.from_residual-in_err-add_name.result c.from_residual-in_err-add_name.ensures.1 in (
+      stopped _ _ p.0 _ _ p.1 p.2
+          (stops_then _ _ _ (alone (rest c.only_name.new.self)) (named_first c.args.self.now.text.now (notes_of c.args.self.now) c.in_ok-name.name c.args.cursor c.only_name.new.self c.requires c.in_ok-name.ensures.reads) c.in_err-add_name.ensures.0),
+      c.in_err-add_name.ensures.1,
+    )
 
 pub returns-in_err-nothing_more : goal.returns-in_err-nothing_more
 returns-in_err-nothing_more c =
-    let p = err_from_is_err_and c.from_residual-in_err-nothing_more.result c.from_residual-in_err-nothing_more.ensures.1 in
-    (stopped _ _ p.0 _ _ p.1 p.2
-    (named_first c.args.self.now.text.now (notes_of c.args.self.now) c.in_ok-name.name c.args.cursor c.only_name.new.self c.requires c.in_ok-name.ensures.reads
-    ∙ ap (λ q. and_then q (alone (rest c.only_name.new.self))) c.in_ok-add_name.ensures.0
-    ∙ c.in_err-nothing_more.ensures (notes_of c.add_name.new.self)), c.in_ok-add_name.ensures.1)
+    let p = err_from_is_err_and c.from_residual-in_err-nothing_more.result c.from_residual-in_err-nothing_more.ensures.1 in (
+      stopped _ _ p.0 _ _ p.1 p.2
+          (named_first c.args.self.now.text.now (notes_of c.args.self.now) c.in_ok-name.name c.args.cursor c.only_name.new.self c.requires c.in_ok-name.ensures.reads
+          ∙ ap (λ q. and_then q (alone (rest c.only_name.new.self))) c.in_ok-add_name.ensures.0
+          ∙ c.in_err-nothing_more.ensures (notes_of c.add_name.new.self)),
+      c.in_ok-add_name.ensures.1,
+    )
 
 pub returns : goal.returns
 returns c = (

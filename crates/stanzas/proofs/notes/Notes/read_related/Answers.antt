@@ -20,20 +20,24 @@ going c = still c.loop-clause.cursor.text.now _ _ (c.in_ok-separator.ensures.tex
 
 pub returns-in_err-name : goal.returns-in_err-name
 returns-in_err-name c =
-    let p = err_from_is_err_and c.from_residual.result c.from_residual.ensures.1 in
-    (stopped _ _ p.0 _ _ p.1 p.2
-    (begins c.args.relation c.args.cursor c.is_done.new.self (notes_of c.args.self.now) c.if-is_done.ensures
-    ∙ c.loop-clause.invariant.says
-    ∙ c.in_err-name.ensures.reads _ _), c.loop-clause.invariant.text)
+    let p = err_from_is_err_and c.from_residual.result c.from_residual.ensures.1 in (
+      stopped _ _ p.0 _ _ p.1 p.2
+          (begins c.args.relation c.args.cursor c.is_done.new.self (notes_of c.args.self.now) c.if-is_done.ensures
+          ∙ c.loop-clause.invariant.says
+          ∙ c.in_err-name.ensures.reads _ _),
+      c.loop-clause.invariant.text,
+    )
 
 pub returns-in_err-separator : goal.returns-in_err-separator
 returns-in_err-separator c =
-    let p = err_from_is_err_and c.from_residual-in_err-separator.result c.from_residual-in_err-separator.ensures.1 in
-    (stopped _ _ p.0 _ _ p.1 p.2
-    (begins c.args.relation c.args.cursor c.is_done.new.self (notes_of c.args.self.now) c.if-is_done.ensures
-    ∙ c.loop-clause.invariant.says
-    ∙ turned c.args.relation c.loop-clause.self.text.now (notes_of c.loop-clause.self) (vec_items c.loop-clause.clause) (vec_items c.push.new.self) c.in_ok-name.name (Err c.in_err-separator.field-0.0) c.loop-clause.cursor c.name.new.self c.separator.new.self
-    c.loop-clause.invariant.front c.in_ok-name.ensures c.in_err-separator.ensures c.in_ok-push.ensures.items), c.loop-clause.invariant.text)
+    let p = err_from_is_err_and c.from_residual-in_err-separator.result c.from_residual-in_err-separator.ensures.1 in (
+      stopped _ _ p.0 _ _ p.1 p.2
+          (begins c.args.relation c.args.cursor c.is_done.new.self (notes_of c.args.self.now) c.if-is_done.ensures
+          ∙ c.loop-clause.invariant.says
+          ∙ turned c.args.relation c.loop-clause.self.text.now (notes_of c.loop-clause.self) (vec_items c.loop-clause.clause) (vec_items c.push.new.self) c.in_ok-name.name (Err c.in_err-separator.field-0.0) c.loop-clause.cursor c.name.new.self c.separator.new.self
+          c.loop-clause.invariant.front c.in_ok-name.ensures c.in_err-separator.ensures c.in_ok-push.ensures.items),
+      c.loop-clause.invariant.text,
+    )
 
 pub loop-clause-preserved-in-Bar : goal.loop-clause-preserved-in-Bar
 loop-clause-preserved-in-Bar c = record {
@@ -60,13 +64,15 @@ returns-in_err-add-in-Comma c =
     let d = c.separator.new.self in
     let text = c.loop-clause.self.text.now in
     let n = notes_of c.loop-clause.self in
-    let p = err_from_is_err_and c.from_residual-in_err-add-in-Comma.result c.from_residual-in_err-add-in-Comma.ensures.1 in
-    (stopped _ _ p.0 _ _ p.1 p.2
-    (closed_stops c.args.relation text d n c.push.new.self c.replace-whole.result c.replace-whole.ensures.value _ _
-    (begins c.args.relation c.args.cursor c.is_done.new.self (notes_of c.args.self.now) c.if-is_done.ensures
-    ∙ turn (goal.at.returns-in_err-add-in-Comma c).In_ok-separator
-    ∙ ap (after c.args.relation d n (map (mention text) (vec_items c.push.new.self))) c.in-Comma.is)
-    c.in_err-add-in-Comma.ensures.0), c.in_err-add-in-Comma.ensures.1 ∙ c.loop-clause.invariant.text)
+    let p = err_from_is_err_and c.from_residual-in_err-add-in-Comma.result c.from_residual-in_err-add-in-Comma.ensures.1 in (
+      stopped _ _ p.0 _ _ p.1 p.2
+          (closed_stops c.args.relation text d n c.push.new.self c.replace-whole.result c.replace-whole.ensures.value _ _
+          (begins c.args.relation c.args.cursor c.is_done.new.self (notes_of c.args.self.now) c.if-is_done.ensures
+          ∙ turn (goal.at.returns-in_err-add-in-Comma c).In_ok-separator
+          ∙ ap (after c.args.relation d n (map (mention text) (vec_items c.push.new.self))) c.in-Comma.is)
+          c.in_err-add-in-Comma.ensures.0),
+      c.in_err-add-in-Comma.ensures.1 ∙ c.loop-clause.invariant.text,
+    )
 
 pub returns-in-End : goal.returns-in-End
 returns-in-End c =

@@ -20,6 +20,8 @@ use std::alloc::Global;
 use texts::{ReadError, Span, find};
 
 /// A control file that was read: its text, the names of the components as stretches of it, and the catalogue that it describes, which is a ground.
+///
+/// Contracts see it by `view`; an `impl Model` would hide that its sheet is well-formed, which the law of a ground needs.
 #[derive(Drop)]
 pub struct ControlFile {
     text: Vec<u8>,

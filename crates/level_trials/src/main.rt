@@ -91,7 +91,7 @@ impl<L: Level> Reduction for Unreduced<L> {
     }
 }
 
-/// 0 needs 1, 1 needs 0, and 1 clashes with 2.
+/// 0 needs 1, 1 needs 0, and 1 clashes with 2. `trials` has such a ring too: a library for it would be no plainer.
 fn ring(heap: Global) -> Result<ClosedCatalogue, Failure> {
     let mut catalogue = OpenCatalogue::new(heap)?;
     catalogue.add_components(3)?;

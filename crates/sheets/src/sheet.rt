@@ -13,6 +13,8 @@ mod health;
 /// Components, what each needs and what it conflicts with.
 ///
 /// Room for every component and clause that a sheet may have is taken when it is made, so no later change asks for memory.
+/// Contracts see it by `model`, and it has no `impl Model`: what the ghost fields say is to be known of every sheet, wherever
+/// one stands. They say it one by one, since proofs find and cite them so.
 #[derive(PartialEq, Eq, Debug, Drop)]
 pub struct Sheet {
     present: ComponentSet,

@@ -23,6 +23,8 @@ pub struct Clash {
 
 /// The names of the components, then the clauses and the conflicts in file order, all as stretches of the text; and the
 /// stanza at hand.
+///
+/// Contracts see it by `notes_of` and by its spans, which an `impl Model` would forget.
 #[derive(Drop)]
 pub struct Notes<'a> {
     text: &'a [u8],

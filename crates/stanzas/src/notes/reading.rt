@@ -34,7 +34,7 @@ impl<'a> Notes<'a> {
         Ok(notes)
     }
 
-    /// Reads a line.
+    /// Reads a line. That it is one of the notes' text stands in three contracts: it relates two parameters, so no type says it.
     fn read_line(&mut self, line: Line<'_>) -> Result<(), ReadError>
         requires { IsFront line.text.now self.old.text.now }
         ensures { Leaves result (step (notes_of self.old) (line_of line.entry) (heading_of (line_of line.entry).text)) self.old self.new }

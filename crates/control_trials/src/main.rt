@@ -24,6 +24,8 @@ fn print_name(rt: &impl Print, name: &[u8]) -> io::Result<()> {
     }
 }
 
+// The runtime goes along to everything that prints: a struct of it and the file would only be taken apart again.
+
 /// The names, each if it leads back to its component. Behind the last there is none, and none is `absent`.
 fn print_names(rt: &impl Print, file: &ControlFile) -> io::Result<()> {
     let size = file.size();

@@ -129,7 +129,7 @@ impl<'a> Line<'a> {
     }
 }
 
-/// The lines of a text that are still to come.
+/// The lines of a text that are still to come, from a place in it on, which lines tell.
 #[derive(Debug, Drop)]
 pub(crate) struct Lines<'a> {
     pub(crate) text: &'a [u8],

@@ -1,5 +1,5 @@
 use Rattle.std.proofs.Common.{◌≡◌, List, [], ◌∷◌, ◌++◌, replicate, refl}
-use Rattle.sets.specs.Sets.{has, within, with_member, with_members, below}
+use Rattle.sets.specs.Sets.{has, within, with_member, below}
 use Rattle.sheets.specs.Examples.{need_of}
 use Rattle.sheets.specs.declared.clause.Clause.{Clause}
 use Rattle.catalogue.specs.Drafts.{Draft, unrelated, clash_made}
@@ -15,7 +15,7 @@ with_loop : Draft
 with_loop = record { clauses = eight.clauses; records = replicate 4 0 ++ 0b10 ∷ replicate 3 0 }
 
 pub returns : goal.returns
-unfolding with_needs with_loop has within with_member with_members below
+unfolding with_needs with_loop has within with_member below
 returns c =
     let d0 = c.args.catalogue.now in
     let d1 = c.add_need.new.self in

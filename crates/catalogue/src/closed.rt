@@ -6,7 +6,8 @@ use levels::{Ground, Level};
 use sets::ComponentSet;
 use sheets::Sheet;
 
-/// A catalogue to which nothing can be added any more: a ground.
+/// A catalogue to which nothing can be added any more: a ground. Contracts name its sheet: an `impl Model` would hide that the
+/// sheet is well-formed, which the law of a ground needs.
 #[derive(Drop)]
 pub struct ClosedCatalogue {
     pub(crate) sheet: Sheet,

@@ -35,7 +35,7 @@ abbrev pub is_found : Option ℕ → ℕ → Bool
 is_found (Some i) q = i == q
 is_found None q = false
 
--- whether one of these conflicts stands in p's stanza, and its name means q
+-- whether one of these conflicts stands in p's stanza, and its name means q; by cases, since it grows with the file
 abbrev pub against : List (List ℕ) → List ClashModel → ℕ → ℕ → Bool
 against names [] p q = false
 against names (c ∷ cs) p q = (c.owner == p && is_found (look_up 0 names c.name) q) || against names cs p q

@@ -30,7 +30,11 @@ fn print_name(rt: &impl Print, name: &[u8]) -> io::Result<()> {
 fn print_names(rt: &impl Print, file: &ControlFile) -> io::Result<()> {
     let size = file.size();
     print!(rt; "{} names", file.present().len())?;
-    for component in file.present().iter().skip(size.saturating_sub(SHOWN)) {
+    for component in file
+        .present()
+        .iter()
+        .skip(file.present().len().saturating_sub(SHOWN))
+    {
         if let Ok(name) = file.name(component)
             && file.find(name) == Some(component)
         {

@@ -66,6 +66,7 @@ impl<L: Level> Reduction for Unreduced<L> {
     ghost gives = { λ b o w k. subst (Law b) (sym k) (record { formed = w; keeps = keeps_itself b w }) };
 
     fn over(below: L, heap: Global) -> Result<Unreduced<L>, AllocFailed<L>> {
+        // A match and no `map` and `map_err`: the level below goes into one of the two.
         match below.sheet().clone() {
             Ok(sheet) => Ok(Unreduced { below, sheet }),
             Err(_) => Err(AllocFailed { value: below }),
@@ -134,7 +135,7 @@ fn raise(ground: Pile<ClosedCatalogue>, heap: Global) -> Result<Pile<Two>, Failu
     Ok(Pile::<Two>::raise(one, heap)?)
 }
 
-/// A step and a sweep of the top, and what the pile comes to.
+/// A step and a sweep of the top, and what the pile comes to: its fields, while programs print its line.
 fn print_calls(rt: &impl Print, pile: &mut Pile<Two>) -> io::Result<()> {
     println!(rt; "step {:?} sweep {:?}", pile.step(0, 0), pile.sweep())?;
     println!(rt; "below {}", pile.top().below().clause_count())?;

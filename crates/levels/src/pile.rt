@@ -98,6 +98,7 @@ impl<R: Reduction> Pile<R> {
         ensures sound { Sound R.rules }
     {
         let Pile { top } = below;
+        // A match and no `map` and `map_err`: what makes a pile proves that a run made it, and closures would each owe that.
         match R::over(top, heap) {
             Ok(top) => Ok(Pile { top }),
             Err(AllocFailed { value: top }) => Err(AllocFailed {

@@ -64,7 +64,8 @@ impl Refusal {
     }
 }
 
-// By hand: a derived `Display` states no output.
+// By hand, and like `Layer`'s of the faults: a derived `Display` states no output, and one for all that has a word would overlap
+// with every other.
 impl fmt::Display for Refusal {
     ghost output = { λ x. Some (word_of x) };
 

@@ -171,7 +171,7 @@ impl ComponentSet {
 
     /// The members, ascending.
     pub fn iter(self) -> Members
-        ensures { result.rest ≡ self }
+        ensures { result ≡ self }
     {
         Members { rest: self }
     }
@@ -195,7 +195,7 @@ impl IntoIterator for ComponentSet {
 
     type IntoIter = Members;
 
-    ghost into_iter_gives = { λ s r. r.rest ≡ s };
+    ghost into_iter_gives = { λ s r. r ≡ s };
 
     fn into_iter(self) -> Members {
         self.iter()
@@ -239,18 +239,26 @@ impl fmt::Debug for ComponentSet {
     }
 }
 
-/// The members of a set that are still to come, ascending.
+/// The members of a set that are still to come, ascending. A contract sees their set.
 #[derive(Clone, Copy, Debug)]
 pub struct Members {
     rest: ComponentSet,
 }
 
+impl Model for Members {
+    ghost Value = { ℕ };
+
+    ghost view = { λ m. m.rest };
+
+    ghost inverse = { λ n. record { rest = n } };
+}
+
 impl Iterator for Members {
     type Item = usize;
 
-    ghost next_gives = { λ s r t. MatchOption r (s.rest ≡ 0) (λ i. (i < limit) × First s.rest i × (t.rest ≡ minus s.rest (2 ^ i))) };
+    ghost next_gives = { λ s r t. MatchOption r (s ≡ 0) (λ i. (i < limit) × First s i × (t ≡ minus s (2 ^ i))) };
 
-    ghost remaining = { λ s. at_most (count_ones s.rest) };
+    ghost remaining = { λ s. at_most (count_ones s) };
 
     fn next(&mut self) -> Option<usize> {
         let component = self.rest.first()?;

@@ -16,7 +16,7 @@ pub record Entry : Type 0 where
 
 -- ---- written out
 
--- strings with a separator between them
+-- strings with a separator between them; by cases, since a reader compares them with the file
 abbrev pub between : List ℕ → List (List ℕ) → List ℕ
 between separator [] = []
 between separator (x ∷ []) = x
@@ -55,7 +55,7 @@ told es = record { names = map (λ e. e.name) es; needs = needs_from 0 es; clash
 
 -- ---- within the rules
 
--- each clause has a name, and all its names are good
+-- each clause has a name, and all its names are good; by cases, since the empty clause is one that a reader looks for
 abbrev pub all_choices : List (List (List ℕ)) → Bool
 all_choices [] = true
 all_choices ([] ∷ cs) = false

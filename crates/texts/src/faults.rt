@@ -1,9 +1,9 @@
 //! What is wrong with a file.
 ghost use Rattle.std.specs.Prelude.{◌≡◌, Some};
 ghost use Rattle.texts.specs.Faults.{fault, layer_word, fault_line, refused_line};
-ghost use Rattle.refusals.specs.declared.Failure.TheVariants.{Refused};
+ghost use Rattle.refusals.specs.declared.FailureOf.TheVariants.{Refused};
 
-use refusals::{Failure, Refusal};
+use refusals::{FailureOf, Refusal};
 use std::error::Error;
 use std::fmt;
 
@@ -91,13 +91,13 @@ impl fmt::Display for RefusedLine {
 }
 
 /// Why a file was not read: a fault in it, or want of memory.
-pub type ReadError = Failure<Fault>;
+pub type ReadError = FailureOf<Fault>;
 
 // By hand: a derived `From` does not say which failure `?` makes.
 impl From<Fault> for ReadError {
     ghost from_gives = { λ x r. r ≡ Refused x };
 
     fn from(fault: Fault) -> ReadError {
-        Failure::Refused(fault)
+        ReadError::Refused(fault)
     }
 }

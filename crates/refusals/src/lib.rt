@@ -3,7 +3,7 @@
 
 ghost use Rattle.std.specs.Prelude.{◌≡◌, Some};
 ghost use Rattle.refusals.specs.Refusals.{number_of, word_of};
-ghost use Rattle.refusals.specs.declared.FailureOf.TheVariants.{Refused, OutOfMemory};
+ghost use Rattle.refusals.specs.declared.Failure.TheVariants.{Refused, OutOfMemory};
 
 use std::alloc::{AllocError, AllocFailed};
 use std::error::Error;
@@ -76,18 +76,17 @@ impl fmt::Display for Refusal {
 
 impl Error for Refusal {}
 
-/// Why something was not made: it was refused, for a reason of type `R`, or memory ran out, which is no refusal and has no number.
+/// Why something was not made: a refusal, or want of memory, which is no refusal and has no number.
+///
+/// What is not read has a type like it, `ReadError` of `texts`. One type for both, generic in the reason, asks callers to write
+/// the reason's type where nothing tells it, and its `Debug` has one word for a refusal and for a fault.
 #[derive(Clone, Copy, PartialEq, Eq, Hash, Debug, Error)]
-#[error_bound(R: fmt::Debug + fmt::Display + Drop)]
-pub enum FailureOf<R> {
+pub enum Failure {
     #[error("refused: {0}")]
-    Refused(R),
+    Refused(Refusal),
     #[error("out of memory")]
     OutOfMemory,
 }
-
-/// Why a call failed: one of the refusals, or want of memory. An alias, since a default for `R` fixes no type in an expression.
-pub type Failure = FailureOf<Refusal>;
 
 // By hand, all three: a derived `From` does not say which failure `?` makes.
 impl From<Refusal> for Failure {
@@ -98,18 +97,18 @@ impl From<Refusal> for Failure {
     }
 }
 
-impl<R> From<AllocError> for FailureOf<R> {
+impl From<AllocError> for Failure {
     ghost from_gives = { λ _ r. r ≡ OutOfMemory };
 
-    fn from(_error: AllocError) -> FailureOf<R> {
-        FailureOf::OutOfMemory
+    fn from(_error: AllocError) -> Failure {
+        Failure::OutOfMemory
     }
 }
 
-impl<R, T: Drop> From<AllocFailed<T>> for FailureOf<R> {
+impl<T: Drop> From<AllocFailed<T>> for Failure {
     ghost from_gives = { λ _ r. r ≡ OutOfMemory };
 
-    fn from(failed: AllocFailed<T>) -> FailureOf<R> {
-        FailureOf::from(AllocError::from(failed))
+    fn from(failed: AllocFailed<T>) -> Failure {
+        Failure::from(AllocError::from(failed))
     }
 }

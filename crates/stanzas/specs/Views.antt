@@ -1,9 +1,9 @@
 -- What the code's values mean: lines, notes, and answers that may also be want of memory.
 use Rattle.std.specs.Prelude.{◌≡◌, ℕ, false, List, [], ◌∷◌, map, drop, Some, None, Option, Ok, Err, vec_items, Result}
-use Rattle.refusals.specs.declared.FailureOf.{FailureOf}
-use Rattle.refusals.specs.declared.FailureOf.TheVariants.{Refused, OutOfMemory}
 use Rattle.texts.specs.Spans.{stretch}
 use Rattle.texts.specs.declared.faults.Fault.{Fault}
+use Rattle.texts.specs.declared.faults.ReadError.{ReadError}
+use Rattle.texts.specs.declared.faults.ReadError.TheVariants.{Faulty, OutOfMemory}
 use Rattle.texts.specs.declared.spans.Span.{Span}
 use Rattle.stanzas.specs.Spans.{IsFront}
 use Rattle.stanzas.specs.Lines.{LineModel, lines}
@@ -57,15 +57,15 @@ said_of o = notes_of o.text.now o.notes
 -- ---- answers
 
 -- an error is the fault that is due, unless it is want of memory
-abbrev pub Stops : {X : Type 0} → FailureOf Fault → Result X Fault → Type 0
-Stops (Refused x) want = want ≡ Err x
+abbrev pub Stops : {X : Type 0} → ReadError → Result X Fault → Type 0
+Stops (Faulty x) want = want ≡ Err x
 Stops OutOfMemory want = Unit {0}
 
 -- a call gives what is due, as view sees it, or it stops
-abbrev pub Answers : {A X : Type 0} → (A → X) → Result A (FailureOf Fault) → Result X Fault → Type 0
+abbrev pub Answers : {A X : Type 0} → (A → X) → Result A ReadError → Result X Fault → Type 0
 Answers view (Ok a) want = want ≡ Ok (view a)
 Answers view (Err e) want = Stops e want
 
 -- a call that reads on does what is due and leaves the notes b, or it stops; the text is the same
-abbrev pub Leaves : Result (Unit {0}) (FailureOf Fault) → Result NotesModel Fault → OpenNotes → OpenNotes → Type 0
+abbrev pub Leaves : Result (Unit {0}) ReadError → Result NotesModel Fault → OpenNotes → OpenNotes → Type 0
 Leaves r want a b = Answers (λ u. said_of b) r want × (b.text.now ≡ a.text.now)

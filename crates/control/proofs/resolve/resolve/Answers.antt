@@ -23,7 +23,7 @@ needed c =
     let members = c.members-members.result in
     obeyed (λ d. need_made d x.owner members) c.loop-need.catalogue (needs_up_to (notes_of text notes) k) (needs_up_to (notes_of text notes) (k + 1)) _ _ _ c.loop-need.invariant
     (need_call text notes c.requires k _ x c.needs-need-items.ensures c.loop-need-test.true c.need-item.is _ members c.as_slice.ensures.value c.members-members.ensures)
-    c.add_need.ensures
+    c.add_need.ensures.goes
 
 pub unwrap-requires-in-loop-need : goal.unwrap-requires-in-loop-need
 unwrap-requires-in-loop-need c = (needed c).0
@@ -49,7 +49,7 @@ unwrap-requires-then-other-clash c =
     let owner = (get_or c.clashes-clash-items.result.now k (record { owner = 0; name = record { start = 0; end = 0 } })).owner in
     (obeyed (λ d. clash_made d owner c.in-Some.other) c.loop-clash.catalogue (clashes_up_to (notes_of text notes) k) (clashes_up_to (notes_of text notes) (k + 1)) _ _ _ c.loop-clash.invariant
     (clash_call text notes c.requires k _ _ c.clashes-clash-items.ensures c.loop-clash-test.true _ c.meant.ensures c.in-Some.other c.in-Some.is c.if-other-clash.true)
-    c.add_clash.ensures).0
+    c.add_clash.ensures.goes).0
 
 pub loop-clash-preserved : goal.loop-clash-preserved
 loop-clash-preserved c =
@@ -62,7 +62,7 @@ loop-clash-preserved c =
           w.catalogue-is
           ∙ (obeyed (λ d. clash_made d owner w.in-Some.other) c.loop-clash.catalogue (clashes_up_to (notes_of text notes) k) (clashes_up_to (notes_of text notes) (k + 1)) _ _ _ c.loop-clash.invariant
           (clash_call text notes c.requires k _ _ c.clashes-clash-items.ensures c.loop-clash-test.true _ c.meant.ensures w.in-Some.other w.in-Some.is w.if-other-clash.true)
-          w.add_clash.ensures).1
+          w.add_clash.ensures.goes).1
       | in-Some+else-other-clash w ↦
           w.catalogue-is
           ∙ c.loop-clash.invariant

@@ -69,11 +69,14 @@ impl Sheet {
             return Err(Refusal::SelfClash);
         }
         for (i, conflicts) in self.conflicts.iter_mut().enumerate() {
-            if i == component {
-                *conflicts = *conflicts | others;
+            // Each set is written, changed or not: so the compiler takes several at a time.
+            *conflicts = if i == component {
+                *conflicts | others
             } else if others.contains(i) {
-                *conflicts = conflicts.with(component);
-            }
+                conflicts.with(component)
+            } else {
+                *conflicts
+            };
         }
         Ok(())
     }

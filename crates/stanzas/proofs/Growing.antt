@@ -28,7 +28,7 @@ module _ (n : OpenNotes) (clause : List Span) where
   abbrev m : NotesModel
   m = said_of n
 
-  many_names : length m.names ≡ length (vec_items n.notes.names)
+  pub many_names : length m.names ≡ length (vec_items n.notes.names)
   many_names = length-map (vec_items n.notes.names) (stretch text)
 
   pub need_added : length (vec_items n.notes.needs) < max_clauses → (x : Need) → x.owner ≡ length (vec_items n.notes.names) - 1 → vec_items x.names ≡ clause → (xs : List Need) → xs ≡ vec_items n.notes.needs ++ x ∷ [] → added Depends m (map (mention text) clause) ≡ Ok (record { names = m.names; needs = map (need_of text) xs; clashes = m.clashes; stanza = m.stanza })

@@ -12,12 +12,12 @@ use Rattle.refusals.specs.declared.Refusal.{Refusal}
 use Rattle.refusals.specs.declared.Refusal.TheVariants.{TableFull, NoComponent}
 use Rattle.sheets.specs.Changes.{Goes, blank, grown, with_clauses, clause_added}
 use Rattle.sheets.specs.Limits.{max_clauses}
-use Rattle.sheets.specs.Sheets.{SheetModel}
+use Rattle.sheets.specs.Sheets.{SheetModel, Formed}
 use Rattle.sheets.specs.declared.clause.Clause.{Clause}
 use Rattle.sheets.proofs.Forms.{within_more, blank_rows, row_grown}
 use Rattle.catalogue.specs.Drafts.{Draft, Kept, is_made, need_made}
 use Rattle.catalogue.specs.Notes.{Filled}
-use Rattle.sheets.specs.Clauses.{row, Among}
+use Rattle.sheets.specs.Clauses.{row, Owned, Known, Among}
 
 -- ---- no component yet
 
@@ -150,10 +150,15 @@ filled_clash m rs p q r lp lq ne small e f = record {
 
 -- ---- what a draft keeps
 
-pub kept : (m : SheetModel) (rs : List ℕ) → m.size ≤ limit → length m.clauses ≤ max_clauses → Filled m rs → Kept (record { clauses = m.clauses; records = rs })
-kept m rs small few f = record {
-  few = omega (arith, f.counted);
-  room = few;
-  known = subst (λ (present : ℕ). Among present rs) (f.whole ∙ ap below (sym f.counted)) f.known;
+pub kept : (m : SheetModel) (rs : List ℕ) → Formed m → Filled m rs → Kept (record { clauses = m.clauses; records = rs })
+kept m rs w f = record {
+  few = omega (arith, f.counted, w.small);
+  room = w.few;
+  owners = subst (λ (present : ℕ). Owned present m.clauses) all w.owned;
+  members = subst (λ (present : ℕ). Known present m.clauses) all w.known;
+  known = subst (λ (present : ℕ). Among present rs) all f.known;
   foreign = f.foreign;
 }
+  where
+    all : m.present ≡ below (length rs)
+    all = f.whole ∙ ap below (sym f.counted)

@@ -8,17 +8,19 @@ use Rattle.refusals.specs.declared.Refusal.TheVariants.{TooMany, TableFull, NoCo
 use Rattle.sheets.specs.Limits.{max_clauses}
 use Rattle.sheets.specs.Sheets.{SheetModel}
 use Rattle.sheets.specs.declared.clause.Clause.{Clause}
-use Rattle.sheets.specs.Clauses.{row, Among, Irreflexive}
+use Rattle.sheets.specs.Clauses.{row, Owned, Known, Among, Irreflexive}
 
 -- the clauses in the order of the calls, and for each component the set of those that it was said to clash with
 pub record Draft : Type 0 where
   pub clauses : List Clause
   pub records : List ℕ
 
--- what every draft keeps that is filled by calls: the limits, and records that name others that were made
+-- what every draft keeps that is filled by calls: the limits, and clauses and records that name what was made; no record names its own component
 pub record Kept (d : Draft) : Type 0 where
   pub few : length d.records ≤ limit
   pub room : length d.clauses ≤ max_clauses
+  pub owners : Owned (below (length d.records)) d.clauses
+  pub members : Known (below (length d.records)) d.clauses
   pub known : Among (below (length d.records)) d.records
   pub foreign : Irreflexive d.records
 

@@ -34,12 +34,9 @@ module _ (text : List ℕ) (names : List (List ℕ)) (choice : List Span) (k : �
   member_unfound e = known_unfound names (map (stretch text) (take k choice)) (stretch text (get_or choice k d)) s so_far e ∙ more
 
 -- one clause or conflict more
-module _ (notes : Notes) (s : Sound (notes_of notes)) (k : ℕ) where
-  abbrev text : List ℕ
-  text = notes.text.now
-
+module _ (text : List ℕ) (notes : Notes) (s : Sound (notes_of text notes)) (k : ℕ) where
   abbrev n : NotesModel
-  n = notes_of notes
+  n = notes_of text notes
 
   pub need_call : (items : List Need) (x : Need) → items ≡ vec_items notes.needs → k < length items → x ≡ get_or items k x
       → (choice : List Span) (members : ℕ) → choice ≡ vec_items x.names → members ≡ known n.names (map (stretch text) choice)

@@ -39,11 +39,10 @@ impl ControlFile {
         ensures examples { Examples }
     {
         let notes = Notes::read(heap, text.as_slice())?;
-        let catalogue = resolve(heap, &notes)?;
-        let names = notes.into_names();
+        let catalogue = resolve(heap, text.as_slice(), &notes)?;
         Ok(ControlFile {
             text,
-            names,
+            names: notes.into_names(),
             catalogue,
         })
     }

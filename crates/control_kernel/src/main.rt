@@ -12,10 +12,10 @@ use std::io;
 use std::io::Read;
 use texts::{ReadError, RefusedLine};
 
-/// Standard input to its end, or one byte more than a file may have.
-fn read_input(rt: &(impl Input + AllocGlobal)) -> io::Result<Vec<u8>> {
-    let mut text = Vec::new(rt.alloc());
-    rt.reader()
+/// The input to its end, or one byte more than a file may have.
+fn read_input(heap: Global, input: impl Read + Drop) -> io::Result<Vec<u8>> {
+    let mut text = Vec::new(heap);
+    input
         .take(Notes::MAX_BYTES as u64 + 1)
         .read_to_end(&mut text)?;
     Ok(text)
@@ -29,15 +29,16 @@ fn kernel_size(heap: Global, text: Vec<u8>) -> Result<KernelSize, ReadError>
     Ok(pile.kernel_size())
 }
 
-fn run(rt: &(impl Input + Print + AllocGlobal)) -> anyhow::Result<()> {
-    match kernel_size(rt.alloc(), read_input(rt)?) {
+fn run(rt: &(impl Print + AllocGlobal), input: impl Read + Drop) -> anyhow::Result<()> {
+    match kernel_size(rt.alloc(), read_input(rt.alloc(), input)?) {
         Ok(size) => println!(rt; "{size}")?,
-        Err(ReadError::Refused(fault)) => println!(rt; "{}", RefusedLine(fault))?,
+        Err(ReadError::Faulty(fault)) => println!(rt; "{}", RefusedLine(fault))?,
         Err(error) => return Err(error.into()),
     }
     Ok(())
 }
 
 fn main(rt: HostRuntime) -> anyhow::Result<()> {
-    run(&rt)
+    // The handle itself and not `reader`, which buffers once more, and asks first whether the input can go back.
+    run(&rt, rt.stdin())
 }

@@ -12,9 +12,12 @@ fn worked_example() -> &'static [u8]
     b"Package: map\nDepends: timeline, font | font-lite\n\nPackage: timeline\nDepends: map\n\nPackage: font\n\nPackage: font-lite\n\nPackage: loop\nDepends: player\nConflicts: timeline\n\nPackage: player\nDepends: codec-a | codec-b\n\nPackage: codec-a\nConflicts: codec-b\n\nPackage: codec-b\n"
 }
 
-/// Says whether standard input has them.
-pub fn example_trial(rt: &(impl Print + Input + AllocGlobal)) -> io::Result<()> {
+/// Says whether the input has them.
+pub fn example_trial(
+    rt: &(impl Print + AllocGlobal),
+    mut input: impl Read + Drop,
+) -> io::Result<()> {
     let mut text = Vec::new(rt.alloc());
-    rt.reader().read_to_end(&mut text)?;
+    input.read_to_end(&mut text)?;
     println!(rt; "example: {}", text.as_slice() == worked_example())
 }

@@ -12,6 +12,7 @@ use levels::Level;
 use refusals::Refusal;
 use sets::ComponentSet;
 use std::io;
+use std::io::Read;
 use texts::{ReadError, RefusedLine};
 
 /// How many names and clauses of a ground are printed: the last ones.
@@ -86,7 +87,7 @@ fn trial(rt: &(impl Print + AllocGlobal), number: usize, text: Vec<u8>) -> io::R
     print!(rt; "{number}: ")?;
     match ControlFile::read(rt.alloc(), text) {
         Ok(file) => print_ground(rt, &file),
-        Err(ReadError::Refused(fault)) => println!(rt; "{}", RefusedLine(fault)),
+        Err(ReadError::Faulty(fault)) => println!(rt; "{}", RefusedLine(fault)),
         Err(ReadError::OutOfMemory) => rt.println("out of memory"),
     }
 }
@@ -150,8 +151,8 @@ fn length_trials(rt: &(impl Print + AllocGlobal), first: usize, length: usize) -
     Ok(())
 }
 
-fn run(rt: &(impl Print + Input + AllocGlobal)) -> io::Result<()> {
-    example_trial(rt)?;
+fn run(rt: &(impl Print + AllocGlobal), input: impl Read + Drop) -> io::Result<()> {
+    example_trial(rt, input)?;
     small_trials(rt)?;
     clause_trials(rt)?;
     component_trials(
@@ -166,5 +167,5 @@ fn run(rt: &(impl Print + Input + AllocGlobal)) -> io::Result<()> {
 }
 
 fn main(rt: HostRuntime) -> io::Result<()> {
-    run(&rt)
+    run(&rt, rt.stdin())
 }

@@ -1,4 +1,4 @@
-ghost use Rattle.std.specs.Prelude.{◌≡◌, MatchResult};
+ghost use Rattle.std.specs.Prelude.{◌≡◌, IfOk, MatchResult};
 ghost use Rattle.sheets.specs.Changes.{Goes};
 ghost use Rattle.levels.specs.Piles.{ground, raised, top, base, own, size_of};
 ghost use Rattle.levels.specs.Laws.{Sound};
@@ -32,6 +32,7 @@ impl<G: Ground> Pile<G> {
     #[tactic(auto, using(crate::proofs::Keeping::main_law))]
     pub fn on(ground: G) -> Pile<G>
         ensures top { result ≡ ground }
+        ensures made { Made (G.pile result) }
         ensures law { MainLaw }
     {
         Pile { top: ground }
@@ -95,6 +96,7 @@ impl<R: Reduction> Pile<R> {
         ensures raises { MatchResult result
             (λ x. R.pile x ≡ raised (R.Below.pile below) R.rules (R.rules.start (top (R.Below.pile below))))
             (λ e. e.value ≡ below) }
+        ensures kept { IfOk result (λ x. Made (R.pile x)) }
         ensures sound { Sound R.rules }
     {
         let Pile { top } = below;
@@ -111,6 +113,7 @@ impl<R: Reduction> Pile<R> {
     pub fn step(&mut self, u: usize, v: usize) -> Result<(), Refusal>
         ensures moves { Goes (R.rules.moved (top (R.Below.pile (R.under self.old))) (own (R.pile self.old)) u v) tt result (own (R.pile self.old)) (own (R.pile self.new)) }
         ensures after { R.pile self.new ≡ after_step (R.pile self.old) u v }
+        ensures kept { Made (R.pile self.new) }
     {
         self.top.step(u, v)
     }
@@ -119,6 +122,7 @@ impl<R: Reduction> Pile<R> {
     pub fn sweep(&mut self) -> Result<(), Refusal>
         ensures answer { result ≡ (R.rules.swept (top (R.Below.pile (R.under self.old))) (own (R.pile self.old))).answer }
         ensures after { R.pile self.new ≡ after_sweep (R.pile self.old) }
+        ensures kept { Made (R.pile self.new) }
     {
         self.top.sweep()
     }

@@ -76,12 +76,14 @@ impl fmt::Display for Refusal {
 
 impl Error for Refusal {}
 
-/// Why something was not made: it was refused, or memory ran out, which is no refusal and has no number.
+/// Why something was not made: a refusal, or want of memory, which is no refusal and has no number.
+///
+/// What is not read has a type like it, `ReadError` of `texts`. One type for both, generic in the reason, asks callers to write
+/// the reason's type where nothing tells it, and its `Debug` has one word for a refusal and for a fault.
 #[derive(Clone, Copy, PartialEq, Eq, Hash, Debug, Error)]
-#[error_bound(R: fmt::Debug + fmt::Display + Drop)]
-pub enum Failure<R = Refusal> {
+pub enum Failure {
     #[error("refused: {0}")]
-    Refused(R),
+    Refused(Refusal),
     #[error("out of memory")]
     OutOfMemory,
 }
@@ -95,18 +97,18 @@ impl From<Refusal> for Failure {
     }
 }
 
-impl<R> From<AllocError> for Failure<R> {
+impl From<AllocError> for Failure {
     ghost from_gives = { λ _ r. r ≡ OutOfMemory };
 
-    fn from(_error: AllocError) -> Failure<R> {
+    fn from(_error: AllocError) -> Failure {
         Failure::OutOfMemory
     }
 }
 
-impl<R, T: Drop> From<AllocFailed<T>> for Failure<R> {
+impl<T: Drop> From<AllocFailed<T>> for Failure {
     ghost from_gives = { λ _ r. r ≡ OutOfMemory };
 
-    fn from(failed: AllocFailed<T>) -> Failure<R> {
+    fn from(failed: AllocFailed<T>) -> Failure {
         Failure::from(AllocError::from(failed))
     }
 }

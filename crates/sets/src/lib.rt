@@ -233,9 +233,19 @@ impl Sub for ComponentSet {
 }
 
 impl fmt::Debug for ComponentSet {
-    /// The members between braces, as `{0, 3}`.
+    /// The members between braces, as `{0, 3}`, whatever width or layout is asked for.
     fn fmt<W: fmt::Write>(&self, f: &mut fmt::Formatter<W>) -> fmt::Result {
-        f.debug_set().entries(self.iter()).finish()
+        write!(f, "{:?}", Braced(self.iter()))
+    }
+}
+
+/// Members to print. What `write!` prints it prints plainly, so the set is one line in any layout.
+#[derive(Clone, Copy)]
+struct Braced(Members);
+
+impl fmt::Debug for Braced {
+    fn fmt<W: fmt::Write>(&self, f: &mut fmt::Formatter<W>) -> fmt::Result {
+        f.debug_set().entries(self.0).finish()
     }
 }
 

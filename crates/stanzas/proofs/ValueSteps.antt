@@ -2,9 +2,9 @@
 use Rattle.std.proofs.Common.{◌≡◌, ℕ, ◌-◌, ◌≤◌, false, List, [], ◌∷◌, ◌++◌, map, length, take, drop, Ok, Err, vec_items, Result, Vec, sym, ap, ◌∙◌, subst, ⊎_elim, arith}
 use Rattle.std.proofs.lemmas.List.{map_push}
 use Rattle.std.proofs.lemmas.Bool.{cases_lt}
-use Rattle.refusals.specs.declared.Failure.{Failure}
-use Rattle.refusals.specs.declared.Failure.TheVariants.{Refused, OutOfMemory}
 use Rattle.texts.specs.declared.faults.Fault.{Fault}
+use Rattle.texts.specs.declared.faults.ReadError.{ReadError}
+use Rattle.texts.specs.declared.faults.ReadError.TheVariants.{Faulty, OutOfMemory}
 use Rattle.texts.specs.declared.spans.Span.{Span}
 use Rattle.texts.proofs.Stretches.{front_stretch}
 use Rattle.stanzas.specs.Tokens.{Named}
@@ -12,25 +12,25 @@ use Rattle.stanzas.specs.Spans.{IsFront, mention}
 use Rattle.stanzas.specs.Notes.{NotesModel, and_then, name_added, added}
 use Rattle.stanzas.specs.Values.{alone, single, listed, related}
 use Rattle.stanzas.specs.Cursors.{rest, end, ReadsName, onward, NameRead, ListFault, after, SeparatorRead, Begun}
-use Rattle.stanzas.specs.Views.{Stops, Answers, Leaves, notes_of}
+use Rattle.stanzas.specs.Views.{Stops, Answers, Leaves, said_of}
 use Rattle.stanzas.specs.declared.cursor.Cursor.{Cursor}
 use Rattle.stanzas.specs.declared.cursor.Separator.{Separator}
 use Rattle.stanzas.specs.declared.cursor.Separator.TheVariants as separator
 use Rattle.stanzas.specs.declared.lines.Relation.{Relation}
-use Rattle.stanzas.specs.declared.notes.Notes.{Notes}
+use Rattle.stanzas.specs.declared.notes.OpenNotes.{OpenNotes}
 
 -- ---- answers
 
 -- an error that was handed on
-pub stopped : {A X : Type 0} (view : A → X) (r : Result A (Failure Fault)) (y z : Failure Fault) (want : Result X Fault) → r ≡ Err y → y ≡ z → Stops z want → Answers view r want
+pub stopped : {A X : Type 0} (view : A → X) (r : Result A ReadError) (y z : ReadError) (want : Result X Fault) → r ≡ Err y → y ≡ z → Stops z want → Answers view r want
 stopped view r y z want e is h = subst (λ q. Answers view q want) (sym (e ∙ ap Err is)) h
 
 -- a call at notes of the same text may say otherwise what is due
-pub leaves_from : (r : Result (Unit {0}) (Failure Fault)) (want other : Result NotesModel Fault) (a o b : Notes) → want ≡ other → o.text.now ≡ a.text.now → Leaves r other o b → Leaves r want a b
-leaves_from r want other a o b e t h = (subst (Answers (λ u. notes_of b) r) (sym e) h.0, h.1 ∙ t)
+pub leaves_from : (r : Result (Unit {0}) ReadError) (want other : Result NotesModel Fault) (a o b : OpenNotes) → want ≡ other → o.text.now ≡ a.text.now → Leaves r other o b → Leaves r want a b
+leaves_from r want other a o b e t h = (subst (Answers (λ u. said_of b) r) (sym e) h.0, h.1 ∙ t)
 
-pub stops_then : (s : Failure Fault) (want due : Result NotesModel Fault) (next : NotesModel → Result NotesModel Fault) → want ≡ and_then due next → Stops s due → Stops s want
-stops_then (Refused x) want due next e h = e ∙ ap (λ q. and_then q next) h
+pub stops_then : (s : ReadError) (want due : Result NotesModel Fault) (next : NotesModel → Result NotesModel Fault) → want ≡ and_then due next → Stops s due → Stops s want
+stops_then (Faulty x) want due next e h = e ∙ ap (λ q. and_then q next) h
 stops_then OutOfMemory want due next e h = tt
 
 -- ---- names
@@ -77,7 +77,7 @@ module _ (r : Relation) where
         closed ∙ ap (λ q. and_then q (λ o. onward r d o [])) ok ∙ ap (λ l. onward r d m (map (mention other) l)) (sym (ap vec_items e ∙ none))
 
     -- or it stops there
-    pub closed_stops : (s : Failure Fault) (want : Result NotesModel Fault) → want ≡ after r d n (map (mention text) (vec_items clause)) separator.Comma → Stops s (added r n (map (mention text) (vec_items whole))) → Stops s want
+    pub closed_stops : (s : ReadError) (want : Result NotesModel Fault) → want ≡ after r d n (map (mention text) (vec_items clause)) separator.Comma → Stops s (added r n (map (mention text) (vec_items whole))) → Stops s want
     closed_stops s want e h = stops_then s want (added r n (map (mention text) (vec_items whole))) (λ m. onward r d m []) (e ∙ closed) h
 
 -- texts that stay

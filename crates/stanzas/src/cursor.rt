@@ -6,7 +6,7 @@ ghost use Rattle.stanzas.specs.Tokens.{place_of};
 
 use crate::lines::Relation;
 use refusals::Refusal;
-use texts::bytes::{is_blank, is_in_run, is_name, scan};
+use texts::bytes::{Blanks, InRun, is_name, scan};
 use texts::faults::{Fault, Layer};
 use texts::spans::Span;
 
@@ -77,7 +77,7 @@ impl Cursor<'_> {
     pub(crate) fn token(&mut self) -> Option<Lexeme>
         ensures { Took result self.old self.new }
     {
-        let at = scan(self.text, self.at, is_blank);
+        let at = scan::<Blanks>(self.text, self.at);
         self.at = at;
         if at >= self.text.len() {
             return None;
@@ -92,7 +92,7 @@ impl Cursor<'_> {
                 Some(Lexeme::Bar(at))
             }
             _ => {
-                let end = scan(self.text, at, is_in_run);
+                let end = scan::<InRun>(self.text, at);
                 self.at = end;
                 if is_name(&self.text[at..end]) {
                     Some(Lexeme::Name(Span { start: at, end }))
@@ -153,7 +153,7 @@ impl Cursor<'_> {
     pub(crate) fn is_done(&mut self) -> bool
         ensures { Begun result self.old self.new }
     {
-        self.at = scan(self.text, self.at, is_blank);
+        self.at = scan::<Blanks>(self.text, self.at);
         self.at >= self.text.len()
     }
 }

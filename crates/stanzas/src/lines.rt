@@ -4,7 +4,7 @@ ghost use Rattle.stanzas.specs.Lines.{field_of, heading_of};
 ghost use Rattle.stanzas.specs.Files.{has, with};
 
 use crate::cursor::Cursor;
-use texts::bytes::{is_blank, is_in_label, is_in_line, is_letter, scan};
+use texts::bytes::{InLabel, InLine, is_blank, is_letter, scan};
 use texts::spans::front;
 
 /// The fields that relate a component to others.
@@ -87,7 +87,7 @@ impl Heading {
         if is_blank(line[0]) {
             return Heading::Continued;
         }
-        let colon = scan(line, 0, is_in_label);
+        let colon = scan::<InLabel>(line, 0);
         if is_letter(line[0]) && colon < line.len() && line[colon] == b':' {
             Heading::named(&line[..colon])
         } else {
@@ -121,7 +121,7 @@ impl<'a> Line<'a> {
         ensures text { result.text.now ≡ self.now.text.now }
         ensures tokens { rest result ≡ value_of (line_of self.now) }
     {
-        let colon = scan(self.text, self.start, is_in_label);
+        let colon = scan::<InLabel>(self.text, self.start);
         Cursor {
             text: self.text,
             at: colon + 1,
@@ -151,7 +151,7 @@ impl<'a> Iterator for Lines<'a> {
         if start >= self.text.len() {
             return None;
         }
-        let end = scan(self.text, start, is_in_line);
+        let end = scan::<InLine>(self.text, start);
         self.at = end + 1;
         Some(Line {
             text: front(self.text, end),

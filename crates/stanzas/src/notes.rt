@@ -26,10 +26,16 @@ pub struct Clash {
 ///
 /// Contracts see it by `notes_of` and by its spans, which an `impl Model` would forget.
 #[derive(Drop)]
-pub struct Notes<'a> {
-    text: &'a [u8],
+pub struct Notes {
     names: Vec<Span>,
     needs: Vec<Need>,
     clashes: Vec<Clash>,
     stanza: Option<Stanza>,
+}
+
+/// Notes that are still being taken: the text that is read, and the notes so far.
+#[derive(Drop)]
+pub(crate) struct OpenNotes<'a> {
+    text: &'a [u8],
+    notes: Notes,
 }

@@ -1,5 +1,5 @@
 -- Kinds of bytes, and the rule for a name.
-use Rattle.std.specs.Prelude.{◌≡◌, ℕ, Bool, not, ◌&&◌, ◌||◌, List, length, ◌==◌, nat_le, slice_index}
+use Rattle.std.specs.Prelude.{ℕ, Bool, not, ◌&&◌, ◌||◌, List, length, ◌==◌, nat_le, slice_index}
 use Rattle.std.specs.List.{list_all}
 
 -- a space or a tab
@@ -45,7 +45,3 @@ in_name b = starts b || b == 43 || b == 45 || b == 46
 -- the rule for a name: 2 to 64 bytes, of those that a name consists of, the first one of those that it begins with
 abbrev pub good : List ℕ → Bool
 good n = nat_le 2 (length n) && nat_le (length n) 64 && starts (slice_index n 0) && list_all in_name n
-
--- an answer that post allows is that of p
-abbrev pub IsTest : (ℕ → Bool → Type 0) → (ℕ → Bool) → Type 0
-IsTest post p = (b : ℕ) (answer : Bool) → post b answer → answer ≡ p b

@@ -1,7 +1,7 @@
 //! Kinds of bytes, runs of them, and the rule for a name.
 ghost use Rattle.std.specs.Prelude.{◌≡◌, ℕ, ◌+◌, ◌≤◌, Bool, length, drop};
 ghost use Rattle.std.specs.List.{prefix_len};
-ghost use Rattle.texts.specs.Bytes.{blank, in_line, letter, in_label, in_run, starts, in_name, good, IsTest};
+ghost use Rattle.texts.specs.Bytes.{blank, in_line, letter, in_label, in_run, starts, in_name, good};
 
 /// A space or a tab.
 pub fn is_blank(byte: u8) -> bool
@@ -61,22 +61,67 @@ pub fn is_name(bytes: &[u8]) -> bool
         && bytes.iter().all(|byte| is_in_name(*byte))
 }
 
-/// Where the run of bytes at `at` that pass the test ends.
-pub fn scan<F: Fn(u8) -> bool>(bytes: &[u8], at: usize, test: F) -> usize
-    requires { F.IsAlwaysCallable test }
-    ensures value { (p : ℕ → Bool) → IsTest (F.post test) p → result ≡ at + prefix_len p (drop at bytes.now) }
+/// A kind of bytes. No closure, since a call of one that is passed in asks of the caller that it may be called.
+pub trait Class {
+    ghost test: { ℕ → Bool };
+
+    fn has(byte: u8) -> bool
+        ensures { result ≡ test byte };
+}
+
+/// Blanks.
+pub struct Blanks;
+
+impl Class for Blanks {
+    ghost test = { blank };
+
+    fn has(byte: u8) -> bool {
+        is_blank(byte)
+    }
+}
+
+/// All bytes but the line feed.
+pub struct InLine;
+
+impl Class for InLine {
+    ghost test = { in_line };
+
+    fn has(byte: u8) -> bool {
+        is_in_line(byte)
+    }
+}
+
+/// What a label consists of.
+pub struct InLabel;
+
+impl Class for InLabel {
+    ghost test = { in_label };
+
+    fn has(byte: u8) -> bool {
+        is_in_label(byte)
+    }
+}
+
+/// What stands between blanks, commas and bars.
+pub struct InRun;
+
+impl Class for InRun {
+    ghost test = { in_run };
+
+    fn has(byte: u8) -> bool {
+        is_in_run(byte)
+    }
+}
+
+/// Where the run of bytes of the class at `at` ends.
+pub fn scan<C: Class>(bytes: &[u8], at: usize) -> usize
+    ensures value { result ≡ at + prefix_len C.Class.test (drop at bytes.now) }
     ensures onward { at ≤ result }
     ensures inside { at ≤ length bytes.now → result ≤ length bytes.now }
 {
     let start = at.min(bytes.len());
-    // The closure's clauses hand on what is known of the test.
     at + bytes[start..]
         .iter()
-        .take_while(
-            |byte: &&u8| -> bool
-                requires { F.pre test byte.now.now }
-                ensures { F.post test byte.now.now result }
-            { test(**byte) },
-        )
+        .take_while(|byte| C::has(**byte))
         .count()
 }

@@ -1,11 +1,13 @@
 //! What is wrong with a file.
 ghost use Rattle.std.specs.Prelude.{◌≡◌, Some};
 ghost use Rattle.texts.specs.Faults.{fault, layer_word, fault_line, refused_line};
-ghost use Rattle.refusals.specs.declared.Failure.TheVariants.{Refused};
+ghost use Rattle.texts.specs.declared.faults.ReadError.TheVariants.{Faulty, OutOfMemory};
 
-use refusals::{Failure, Refusal};
+use refusals::Refusal;
+use std::alloc::{AllocError, AllocFailed};
 use std::error::Error;
 use std::fmt;
+use thiserror::Error;
 
 /// Where a fault was noticed: in a name, in the value of a field, or in the file.
 #[derive(Clone, Copy, PartialEq, Eq, Hash, Debug)]
@@ -91,13 +93,35 @@ impl fmt::Display for RefusedLine {
 }
 
 /// Why a file was not read: a fault in it, or want of memory.
-pub type ReadError = Failure<Fault>;
+#[derive(Clone, Copy, PartialEq, Eq, Hash, Debug, Error)]
+pub enum ReadError {
+    #[error("refused: {0}")]
+    Faulty(Fault),
+    #[error("out of memory")]
+    OutOfMemory,
+}
 
-// By hand: a derived `From` does not say which failure `?` makes.
+// By hand, all three: a derived `From` does not say which error `?` makes.
 impl From<Fault> for ReadError {
-    ghost from_gives = { λ x r. r ≡ Refused x };
+    ghost from_gives = { λ x r. r ≡ Faulty x };
 
     fn from(fault: Fault) -> ReadError {
-        Failure::Refused(fault)
+        ReadError::Faulty(fault)
+    }
+}
+
+impl From<AllocError> for ReadError {
+    ghost from_gives = { λ _ r. r ≡ OutOfMemory };
+
+    fn from(_error: AllocError) -> ReadError {
+        ReadError::OutOfMemory
+    }
+}
+
+impl<T: Drop> From<AllocFailed<T>> for ReadError {
+    ghost from_gives = { λ _ r. r ≡ OutOfMemory };
+
+    fn from(failed: AllocFailed<T>) -> ReadError {
+        ReadError::from(AllocError::from(failed))
     }
 }

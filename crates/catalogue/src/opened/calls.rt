@@ -17,7 +17,8 @@ use std::alloc::{AllocError, Global};
 impl OpenCatalogue {
     /// A catalogue without components.
     pub fn new(heap: Global) -> Result<OpenCatalogue, AllocError>
-        ensures { IfOk result (λ c. c ≡ empty_draft) }
+        ensures empty { IfOk result (λ c. c ≡ empty_draft) }
+        ensures kept { IfOk result (λ c. Kept c) }
     {
         let sheet = Sheet::new(heap)?;
         let records = Vec::with_capacity(heap, ComponentSet::LIMIT)?;
@@ -26,7 +27,8 @@ impl OpenCatalogue {
 
     /// One more component, and its number; too-many past the limit.
     pub fn add_component(&mut self) -> Result<usize, Refusal>
-        ensures { Goes (component_made self.old) (length self.old.records) result self.old self.new }
+        ensures goes { Goes (component_made self.old) (length self.old.records) result self.old self.new }
+        ensures kept { Kept self.new }
     {
         let component = self.sheet.add_component()?;
         self.records.push_reserved(ComponentRecord::new());
@@ -35,7 +37,8 @@ impl OpenCatalogue {
 
     /// So many components more; too-many where they would pass the limit, and then none is added.
     pub fn add_components(&mut self, count: usize) -> Result<(), Refusal>
-        ensures { Goes (components_made self.old count) tt result self.old self.new }
+        ensures goes { Goes (components_made self.old count) tt result self.old self.new }
+        ensures kept { Kept self.new }
     {
         if count > ComponentSet::LIMIT - self.records.len() {
             return Err(Refusal::TooMany);
@@ -48,7 +51,8 @@ impl OpenCatalogue {
 
     /// A component needs one of the members; no-component where a number was not made yet, then table-full.
     pub fn add_need(&mut self, owner: usize, members: ComponentSet) -> Result<(), Refusal>
-        ensures { Goes (need_made self.old owner members) tt result self.old self.new }
+        ensures goes { Goes (need_made self.old owner members) tt result self.old self.new }
+        ensures kept { Kept self.new }
     {
         self.sheet.add_clause(Clause { owner, members })
     }
@@ -56,7 +60,8 @@ impl OpenCatalogue {
     /// A component clashes with another, which is noted at its own record alone.
     /// No-component where a number was not made yet, then self-clash for a component with itself; repeating it is obeyed.
     pub fn add_clash(&mut self, component: usize, other: usize) -> Result<(), Refusal>
-        ensures { Goes (clash_made self.old component other) tt result self.old self.new }
+        ensures goes { Goes (clash_made self.old component other) tt result self.old self.new }
+        ensures kept { Kept self.new }
     {
         // Tested here and not by `get_mut`: both numbers come before the clash with oneself.
         if component >= self.records.len() || other >= self.records.len() {

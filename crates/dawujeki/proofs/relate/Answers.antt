@@ -30,10 +30,10 @@ returns c =
     let x3 = with_needs (need_of 0 0b10 ∷ need_of 0 0b1100 ∷ need_of 1 0b1 ∷ []) in
     let x4 = with_needs (need_of 0 0b10 ∷ need_of 0 0b1100 ∷ need_of 1 0b1 ∷ need_of 4 0b100000 ∷ []) in
     let x5 = with_needs eight.clauses in
-    let e1 : d1 ≡ x1 = (need_obeyed 0 0b10 c.from.result d0 d1 (unrelated 8) x1 _ c.from.ensures.value c.requires refl c.add_need.ensures).1 in
-    let e2 : d2 ≡ x2 = (need_obeyed 0 0b1100 c.from-fonts.result d1 d2 x1 x2 _ c.from-fonts.ensures.value e1 refl c.add_need-2.ensures).1 in
-    let e3 : d3 ≡ x3 = (need_obeyed 1 0b1 c.from-2.result d2 d3 x2 x3 _ c.from-2.ensures.value e2 refl c.add_need-3.ensures).1 in
-    let e4 : d4 ≡ x4 = (need_obeyed 4 0b100000 c.from-3.result d3 d4 x3 x4 _ c.from-3.ensures.value e3 refl c.add_need-4.ensures).1 in
-    let e5 : d5 ≡ x5 = (need_obeyed 5 0b11000000 c.from-codecs.result d4 d5 x4 x5 _ c.from-codecs.ensures.value e4 refl c.add_need-5.ensures).1 in
-    let e6 : d6 ≡ with_loop = (obeyed (λ d. clash_made d 4 1) d5 x5 with_loop d6 tt _ e5 refl c.add_clash.ensures).1 in
-    (obeyed (λ d. clash_made d 6 7) d6 with_loop eight d7 tt _ e6 refl c.add_clash-2.ensures).1
+    let e1 : d1 ≡ x1 = (need_obeyed 0 0b10 c.from.result d0 d1 (unrelated 8) x1 _ c.from.ensures.value c.requires refl c.add_need.ensures.goes).1 in
+    let e2 : d2 ≡ x2 = (need_obeyed 0 0b1100 c.from-fonts.result d1 d2 x1 x2 _ c.from-fonts.ensures.value e1 refl c.add_need-2.ensures.goes).1 in
+    let e3 : d3 ≡ x3 = (need_obeyed 1 0b1 c.from-2.result d2 d3 x2 x3 _ c.from-2.ensures.value e2 refl c.add_need-3.ensures.goes).1 in
+    let e4 : d4 ≡ x4 = (need_obeyed 4 0b100000 c.from-3.result d3 d4 x3 x4 _ c.from-3.ensures.value e3 refl c.add_need-4.ensures.goes).1 in
+    let e5 : d5 ≡ x5 = (need_obeyed 5 0b11000000 c.from-codecs.result d4 d5 x4 x5 _ c.from-codecs.ensures.value e4 refl c.add_need-5.ensures.goes).1 in
+    let e6 : d6 ≡ with_loop = (obeyed (λ d. clash_made d 4 1) d5 x5 with_loop d6 tt _ e5 refl c.add_clash.ensures.goes).1 in
+    (obeyed (λ d. clash_made d 6 7) d6 with_loop eight d7 tt _ e6 refl c.add_clash-2.ensures.goes).1

@@ -2,7 +2,7 @@
 ghost use Rattle.std.specs.Prelude.{◌≡◌, ℕ, ◌&&◌, ◌||◌, IfOk, OnOk, ◌==◌};
 ghost use Rattle.sets.specs.Sets.{has};
 ghost use Rattle.sheets.specs.Sheets.{model, conflicts_of};
-ghost use Rattle.sheets.specs.Changes.{Goes, blank, component_added, clause_added, conflicts_added};
+ghost use Rattle.sheets.specs.Changes.{Goes, blank, component_added, clause_added, conflicts_added, opposed_set};
 
 use super::Sheet;
 use crate::clause::Clause;
@@ -69,13 +69,28 @@ impl Sheet {
             return Err(Refusal::SelfClash);
         }
         for (i, conflicts) in self.conflicts.iter_mut().enumerate() {
-            if i == component {
-                *conflicts = *conflicts | others;
-            } else if others.contains(i) {
-                *conflicts = conflicts.with(component);
-            }
+            *conflicts = opposed_set(*conflicts, component, others, i);
         }
         Ok(())
+    }
+}
+
+/// The conflict set of component `i`, once `component` conflicts with the others. A function of its own, and each set is written,
+/// changed or not: so the loop over the table compiles to vector code.
+fn opposed_set(
+    conflicts: ComponentSet,
+    component: usize,
+    others: ComponentSet,
+    i: usize,
+) -> ComponentSet
+    ensures { result ≡ opposed_set conflicts component others i }
+{
+    if i == component {
+        conflicts | others
+    } else if others.contains(i) {
+        conflicts.with(component)
+    } else {
+        conflicts
     }
 }
 

@@ -4,14 +4,7 @@ ghost use Rattle.std.specs.Prelude.{◌≡◌};
 use super::{Clash, Need, Notes};
 use texts::spans::Span;
 
-impl<'a> Notes<'a> {
-    /// The text from which they were taken.
-    pub fn text(&self) -> &'a [u8]
-        ensures { result.now ≡ self.now.text.now }
-    {
-        self.text
-    }
-
+impl Notes {
     /// The names of the components, by number.
     pub fn names(&self) -> &[Span]
         ensures { result.now ≡ self.now.names.items }
@@ -35,7 +28,7 @@ impl<'a> Notes<'a> {
 
     /// The names alone.
     pub fn into_names(self) -> Vec<Span>
-        ensures { result ≡ self.entry.names }
+        ensures { result ≡ self.names }
     {
         self.names
     }

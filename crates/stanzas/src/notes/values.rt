@@ -2,19 +2,19 @@
 ghost use Rattle.stanzas.specs.Spans.{IsFront};
 ghost use Rattle.stanzas.specs.Values.{single, related};
 ghost use Rattle.stanzas.specs.Cursors.{rest, end};
-ghost use Rattle.stanzas.specs.Views.{Leaves, notes_of};
+ghost use Rattle.stanzas.specs.Views.{Leaves, said_of};
 
-use super::Notes;
+use super::OpenNotes;
 use crate::cursor::{Cursor, Separator};
 use crate::lines::Relation;
 use std::mem;
 use texts::faults::ReadError;
 
-impl Notes<'_> {
+impl OpenNotes<'_> {
     /// Reads the value of a `Package`.
     pub(crate) fn read_package(&mut self, mut cursor: Cursor<'_>) -> Result<(), ReadError>
         requires { IsFront cursor.text.now self.old.text.now }
-        ensures { Leaves result (single (end cursor.entry) (notes_of self.old) (rest cursor.entry)) self.old self.new }
+        ensures { Leaves result (single (end cursor.entry) (said_of self.old) (rest cursor.entry)) self.old self.new }
     {
         let name = cursor.only_name()?;
         self.add_name(name)?;
@@ -29,12 +29,12 @@ impl Notes<'_> {
         relation: Relation,
     ) -> Result<(), ReadError>
         requires { IsFront cursor.text.now self.old.text.now }
-        ensures { Leaves result (related relation (end cursor.entry) (notes_of self.old) (rest cursor.entry)) self.old self.new }
+        ensures { Leaves result (related relation (end cursor.entry) (said_of self.old) (rest cursor.entry)) self.old self.new }
     {
         if cursor.is_done() {
             return Ok(());
         }
-        let heap = *self.names.allocator();
+        let heap = *self.notes.names.allocator();
         let mut clause = Vec::new(heap);
         loop {
             let name = cursor.name(relation)?;

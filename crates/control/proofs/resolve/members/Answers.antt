@@ -6,9 +6,10 @@ use Rattle.control.proofs.resolve.members.Goals.{in-Some, in_default}
 
 pub loop-name-preserved : goal.loop-name-preserved
 loop-name-preserved c =
-    let n = c.args.notes.now in
+    let text = c.args.text.now in
+    let names = (notes_of text c.args.notes.now).names in
     elim c.match-meant.branch [
       | in-Some w ↦ w.members-is ∙ w.with-members.ensures.value
-          ∙ member_found n.text.now (notes_of n).names c.args.choice.now c.loop-name.name-index _ c.loop-name-test.true _ c.loop-name.invariant w.in-Some.component w.in-Some.ensures
-      | in_default w ↦ w.members-is ∙ member_unfound n.text.now (notes_of n).names c.args.choice.now c.loop-name.name-index _ c.loop-name-test.true _ c.loop-name.invariant w.in_default.ensures
+          ∙ member_found text names c.args.choice.now c.loop-name.name-index _ c.loop-name-test.true _ c.loop-name.invariant w.in-Some.component w.in-Some.ensures
+      | in_default w ↦ w.members-is ∙ member_unfound text names c.args.choice.now c.loop-name.name-index _ c.loop-name-test.true _ c.loop-name.invariant w.in_default.ensures
     ]

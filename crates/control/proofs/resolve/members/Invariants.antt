@@ -5,4 +5,4 @@ use Rattle.control.specs.Grounds.{known}
 use Rattle.control.proofs.resolve.members.Given as goal
 
 abbrev pub invariant-loop-name : goal.invariant-loop-name
-invariant-loop-name l = l.members ≡ known (notes_of l.notes).names (map (stretch l.notes.text.now) (take l.name-index l.choice))
+invariant-loop-name l = l.members ≡ known (notes_of l.text l.notes).names (map (stretch l.text) (take l.name-index l.choice))

@@ -8,9 +8,9 @@ use Rattle.texts.proofs.Stretches.{behind}
 use Rattle.texts.proofs.bytes.scan.Goals as goal
 
 pub returns-clause-value : goal.returns-clause-value
-returns-clause-value g c p tests =
+returns-clause-value g c =
     let rest = drop c.args.at c.args.bytes.now in
     ap (λ n. c.args.at + n)
     (count_from_yields_List c.take_while.result _ c.count.ensures.ran
-    (YieldsList-from_take_while _ p (YieldsList-from_slice rest (ap iter_rest c.take_while.ensures.source ∙ c.iter.ensures.rest ∙ behind c.args.bytes.now c.args.at c.min-start.result c.min-start.ensures)) c.take_while.ensures.closure c.take_while.ensures.done (λ x b q k. (search rules, search (rules, tests))))
-    ∙ length-prefix_len p rest)
+    (YieldsList-from_take_while _ g.C.Class.test (YieldsList-from_slice rest (ap iter_rest c.take_while.ensures.source ∙ c.iter.ensures.rest ∙ behind c.args.bytes.now c.args.at c.min-start.result c.min-start.ensures)) c.take_while.ensures.closure c.take_while.ensures.done (λ x b q k. (search rules, search rules)))
+    ∙ length-prefix_len g.C.Class.test rest)

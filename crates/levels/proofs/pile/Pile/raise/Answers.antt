@@ -11,6 +11,9 @@ sound g = let m = g.met.R.Reduction in sound_from g.R.Reduction.rules g.R.Reduct
 pub invariant_of-result : goal.invariant_of-result
 invariant_of-result g c = made_after _ _ (raise g.R.Reduction.rules (sound g)) c.below.invariant (search rules)
 
+pub returns-in-Ok-clause-kept : goal.returns-in-Ok-clause-kept
+returns-in-Ok-clause-kept g c = made_after _ _ (raise g.R.Reduction.rules (sound g)) c.below.invariant (search rules)
+
 pub returns-in-Ok-clause-sound : goal.returns-in-Ok-clause-sound
 returns-in-Ok-clause-sound g c = sound g
 

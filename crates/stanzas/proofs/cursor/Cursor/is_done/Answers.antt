@@ -1,6 +1,5 @@
-use Rattle.texts.specs.Bytes.{blank}
 use Rattle.stanzas.proofs.CursorSteps.{begun}
 use Rattle.stanzas.proofs.cursor.Cursor.is_done.Goals as goal
 
 pub returns : goal.returns
-returns c = begun c.args.self.now c.scan-self.result (c.scan-self.ensures.value blank (λ b r e. e))
+returns c = begun c.args.self.now c.scan-self.result c.scan-self.ensures.value

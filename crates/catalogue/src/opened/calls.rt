@@ -25,6 +25,14 @@ impl OpenCatalogue {
         Ok(OpenCatalogue { sheet, records })
     }
 
+    /// How many components there are so far, and what every open catalogue keeps.
+    pub fn size(&self) -> usize
+        ensures value { result ≡ length self.now.records }
+        ensures kept { Kept self.now }
+    {
+        self.records.len()
+    }
+
     /// One more component, and its number; too-many past the limit.
     pub fn add_component(&mut self) -> Result<usize, Refusal>
         ensures goes { Goes (component_made self.old) (length self.old.records) result self.old self.new }

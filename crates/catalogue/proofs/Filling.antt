@@ -17,7 +17,7 @@ use Rattle.sheets.specs.declared.clause.Clause.{Clause}
 use Rattle.sheets.proofs.Forms.{within_more, blank_rows, row_grown}
 use Rattle.catalogue.specs.Drafts.{Draft, Kept, is_made, need_made}
 use Rattle.catalogue.specs.Notes.{Filled}
-use Rattle.sheets.specs.Clauses.{row, Owned, Known, Among}
+use Rattle.sheets.specs.Clauses.{row, Owned, Known, Among, Irreflexive}
 
 -- ---- no component yet
 
@@ -150,15 +150,33 @@ filled_clash m rs p q r lp lq ne small e f = record {
 
 -- ---- what a draft keeps
 
-pub kept : (m : SheetModel) (rs : List ℕ) → Formed m → Filled m rs → Kept (record { clauses = m.clauses; records = rs })
-kept m rs w f = record {
-  few = omega (arith, f.counted, w.small);
-  room = w.few;
-  owners = subst (λ (present : ℕ). Owned present m.clauses) all w.owned;
-  members = subst (λ (present : ℕ). Known present m.clauses) all w.known;
-  known = subst (λ (present : ℕ). Among present rs) all f.known;
-  foreign = f.foreign;
-}
-  where
-    all : m.present ≡ below (length rs)
-    all = f.whole ∙ ap below (sym f.counted)
+-- what holds of the records, and of how many clauses there are, whatever the clauses name
+pub record KeptRecords (d : Draft) : Type 0 where
+  pub few : length d.records ≤ limit
+  pub room : length d.clauses ≤ max_clauses
+  pub known : Among (below (length d.records)) d.records
+  pub foreign : Irreflexive d.records
+
+module _ (m : SheetModel) (rs : List ℕ) where
+  all : Filled m rs → m.present ≡ below (length rs)
+  all f = f.whole ∙ ap below (sym f.counted)
+
+  pub kept : m.size ≤ limit → length m.clauses ≤ max_clauses → Filled m rs → KeptRecords (record { clauses = m.clauses; records = rs })
+  kept small few f = record {
+    few = omega (arith, f.counted);
+    room = few;
+    known = subst (λ (present : ℕ). Among present rs) (all f) f.known;
+    foreign = f.foreign;
+  }
+
+  -- and what their clauses name was made, where the sheet is formed
+  pub kept_whole : Formed m → Filled m rs → Kept (record { clauses = m.clauses; records = rs })
+  kept_whole w f =
+      let k = kept w.small w.few f in record {
+        few = k.few;
+        room = k.room;
+        owners = subst (λ (present : ℕ). Owned present m.clauses) (all f) w.owned;
+        members = subst (λ (present : ℕ). Known present m.clauses) (all f) w.known;
+        known = k.known;
+        foreign = k.foreign;
+      }

@@ -4,5 +4,7 @@
 mod cursor;
 pub mod lines;
 pub mod notes;
+#[cfg(test)]
+mod tests;
 
-pub use notes::{Clash, Need, Notes};
+pub use notes::{Clash, Need, Notes, OpenNotes};

@@ -33,9 +33,11 @@ pub struct Notes {
     stanza: Option<Stanza>,
 }
 
-/// Notes that are still being taken: the text that is read, and the notes so far.
+/// The text that is read and the notes of it so far; and, for who wants both at hand, the whole notes beside their text.
+///
+/// Contracts see the text, and what the notes say by `said_of`.
 #[derive(Drop)]
-pub(crate) struct OpenNotes<'a> {
+pub struct OpenNotes<'a> {
     text: &'a [u8],
     notes: Notes,
 }

@@ -1,7 +1,7 @@
 //! What can be asked of notes.
 ghost use Rattle.std.specs.Prelude.{◌≡◌};
 
-use super::{Clash, Need, Notes};
+use super::{Clash, Need, Notes, OpenNotes};
 use texts::spans::Span;
 
 impl Notes {
@@ -31,5 +31,28 @@ impl Notes {
         ensures { result ≡ self.names }
     {
         self.names
+    }
+}
+
+impl<'a> OpenNotes<'a> {
+    /// The text from which they are taken.
+    pub fn text(&self) -> &'a [u8]
+        ensures { result.now ≡ self.now.text.now }
+    {
+        self.text
+    }
+
+    /// The notes beside it.
+    pub fn notes(&self) -> &Notes
+        ensures { result.now ≡ self.now.notes }
+    {
+        &self.notes
+    }
+
+    /// The notes alone, which stay when the text goes.
+    pub fn into_notes(self) -> Notes
+        ensures { result ≡ self.entry.notes }
+    {
+        self.notes
     }
 }

@@ -34,7 +34,18 @@ impl Notes {
     }
 }
 
-impl OpenNotes<'_> {
+impl<'a> OpenNotes<'a> {
+    /// Reads a file, up to its first fault, and keeps its text at hand beside the notes.
+    pub fn read(heap: Global, text: &'a [u8]) -> Result<OpenNotes<'a>, ReadError>
+        ensures value { Answers said_of result (reading text.now) }
+        ensures text { IfOk result (λ n. n.text.now ≡ text.now) }
+        ensures sound { IfOk result (λ n. Sound (said_of n)) }
+        ensures plain { ReadsBack }
+    {
+        let notes = Notes::read(heap, text)?;
+        Ok(OpenNotes { text, notes })
+    }
+
     /// Reads a line. That it is one of the file's text stands in three contracts: it relates two parameters, so no type says it.
     fn read_line(&mut self, line: Line<'_>) -> Result<(), ReadError>
         requires { IsFront line.text.now self.old.text.now }

@@ -5,7 +5,7 @@ use Rattle.sheets.specs.Sheets.{model}
 use Rattle.sheets.specs.Clauses.{row}
 use Rattle.sheets.proofs.Forms.{formed}
 use Rattle.catalogue.specs.Notes.{Filled}
-use Rattle.catalogue.proofs.Filling.{filled_clash, kept}
+use Rattle.catalogue.proofs.Filling.{filled_clash, kept_whole}
 use Rattle.catalogue.proofs.opened.OpenCatalogue.add_clash.Goals as goal
 use Rattle.catalogue.proofs.opened.OpenCatalogue.add_clash.Goals.{After-note}
 
@@ -26,4 +26,4 @@ invariant_of-self c = (filled (goal.at.invariant_of-self c).After-note, c.self.i
 
 pub returns-clause-kept : goal.returns-clause-kept
 returns-clause-kept c =
-    let o = c.self.inside in kept (model o.sheet) (set (vec_items o.records) c.args.component c.note.new.self) (formed o.sheet) (filled (goal.at.returns-clause-kept c).After-note)
+    let o = c.self.inside in kept_whole (model o.sheet) (set (vec_items o.records) c.args.component c.note.new.self) (formed o.sheet) (filled (goal.at.returns-clause-kept c).After-note)

@@ -4,7 +4,7 @@ use Rattle.sheets.specs.Sheets.{SheetModel, model}
 use Rattle.sheets.specs.Changes.{grown}
 use Rattle.sheets.proofs.Forms.{formed}
 use Rattle.catalogue.specs.Notes.{Filled}
-use Rattle.catalogue.proofs.Filling.{filled_grown, kept}
+use Rattle.catalogue.proofs.Filling.{filled_grown, kept_whole}
 use Rattle.catalogue.proofs.opened.OpenCatalogue.add_component.Goals as goal
 use Rattle.catalogue.proofs.opened.OpenCatalogue.add_component.Goals.{After-push_reserved}
 
@@ -25,4 +25,4 @@ invariant_of-self-2 c =
 
 pub returns-clause-kept : goal.returns-clause-kept
 returns-clause-kept c =
-    let s = c.add_component.new.self in kept (model s) (vec_items c.push_reserved.new.self) (formed s) (filled (goal.at.returns-clause-kept c).After-push_reserved)
+    let s = c.add_component.new.self in kept_whole (model s) (vec_items c.push_reserved.new.self) (formed s) (filled (goal.at.returns-clause-kept c).After-push_reserved)

@@ -4,7 +4,7 @@ use Rattle.sheets.specs.Sheets.{SheetModel, model}
 use Rattle.sheets.specs.Changes.{blank}
 use Rattle.sheets.proofs.Forms.{formed}
 use Rattle.catalogue.specs.Notes.{Filled}
-use Rattle.catalogue.proofs.Filling.{filled_blank, kept}
+use Rattle.catalogue.proofs.Filling.{filled_blank, kept_whole}
 use Rattle.catalogue.proofs.opened.OpenCatalogue.new.Goals as goal
 use Rattle.catalogue.proofs.opened.OpenCatalogue.new.Goals.{In_ok-records}
 
@@ -19,4 +19,4 @@ invariant_of-result c =
     let room : limit ≤ vec_capacity c.in_ok-records.records = search rules in (filled (goal.at.invariant_of-result c).In_ok-records, room)
 
 pub returns-clause-kept : goal.returns-clause-kept
-returns-clause-kept c = let s = c.in_ok-sheet.sheet in kept (model s) (vec_items c.in_ok-records.records) (formed s) (filled (goal.at.returns-clause-kept c).In_ok-records)
+returns-clause-kept c = let s = c.in_ok-sheet.sheet in kept_whole (model s) (vec_items c.in_ok-records.records) (formed s) (filled (goal.at.returns-clause-kept c).In_ok-records)

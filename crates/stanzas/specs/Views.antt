@@ -50,7 +50,7 @@ notes_of text n = record {
   stanza = n.stanza;
 }
 
--- what was said so far, in notes that are still being taken
+-- what was said so far, in notes beside their text
 abbrev pub said_of : OpenNotes → NotesModel
 said_of o = notes_of o.text.now o.notes
 

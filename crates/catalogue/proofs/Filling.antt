@@ -169,7 +169,7 @@ module _ (m : SheetModel) (rs : List ℕ) where
     foreign = f.foreign;
   }
 
-  -- and what their clauses name was made, where the sheet is formed
+  -- where the sheet is formed, what its clauses name was made as well
   pub kept_whole : Formed m → Filled m rs → Kept (record { clauses = m.clauses; records = rs })
   kept_whole w f =
       let k = kept w.small w.few f in record {

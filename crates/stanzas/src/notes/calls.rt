@@ -35,14 +35,14 @@ impl Notes {
 }
 
 impl<'a> OpenNotes<'a> {
-    /// The text from which they are taken.
+    /// The text from which the notes are taken, for as long as it was lent.
     pub fn text(&self) -> &'a [u8]
         ensures { result.now ≡ self.now.text.now }
     {
         self.text
     }
 
-    /// The notes beside it.
+    /// The notes that are taken from the text.
     pub fn notes(&self) -> &Notes
         ensures { result.now ≡ self.now.notes }
     {
